@@ -1,0 +1,38 @@
+-- The look-up through a list of rows, turn by turn. Assumes nothing.
+use Prim.Native.Nat.{ℕ, suc, _+_, _≤_, _<_}
+use mathlib.Core.Path.{_≡_, refl}
+use mathlib.Core.Bool.{Bool, true, false, _&&_}
+use mathlib.Core.List.{List, [], _∷_}
+use native.Mathlib.Numerals.{add-one}
+use borrow.Author.Tests.{leb-true}
+use lib.Dec.{leb}
+use lib.ListN.{length, getD, drop, drop-of-length-le}
+use lib.Seq.{drop-cons}
+use Rattle.bus.specs.declared.Access.{Access}
+use Rattle.bus.specs.declared.Answer.the-variants.{NotInTable}
+use Rattle.bus.specs.declared.table.Row.{Row}
+use Rattle.bus.specs.declared.table.Register.{Register}
+use Rattle.bus.specs.declared.table.Register.the-variants.{Refused}
+use Rattle.bus.specs.Table.{covers, reach, lookUp}
+
+-- the first factor of three that are true
+first-true : (a b c : Bool) → a && b && c ≡ true → a ≡ true
+first-true true b c e = refl
+first-true false b c e = e
+
+-- a row's offsets begin with its first
+pub from-first : (r : Row) (o : ℕ) → covers r o ≡ true → r .0 ≤ o
+from-first r o e = leb-true (r .0) o (first-true (leb (r .0) o) _ _ e)
+
+module _ (rows : List Row) (i : ℕ) (a : Access) (d : Row) where
+  pub found : i < length rows → covers (getD rows i d) (a .offset) ≡ true → lookUp i (drop i rows) a ≡ reach i (getD rows i d) a
+  unfolding lookUp
+  found h e = rw (drop-cons rows i d, e)
+
+  pub missed : i < length rows → covers (getD rows i d) (a .offset) ≡ false → lookUp i (drop i rows) a ≡ lookUp (i + 1) (drop (i + 1) rows) a
+  unfolding lookUp
+  missed h e = rw (add-one, drop-cons rows i d, e)
+
+pub ended : (rows : List Row) (i : ℕ) (a : Access) → length rows ≤ i → lookUp i (drop i rows) a ≡ Refused NotInTable
+unfolding lookUp
+ended rows i a h = rw (drop-of-length-le rows {i = i} h)

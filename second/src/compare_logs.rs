@@ -1,0 +1,119 @@
+//! `compare logs`: the fixed cases, the head faults and the random cases against COMMAND.
+
+use crate::case::{hex, Batch, Case};
+use crate::compare::{shown_listing, Verdict};
+use crate::failing::{compare_input, first_failing, Failing};
+use crate::fixed_cases::{fixed_cases, head_inputs};
+use crate::log_listing::{list_cases, OWN_READER};
+use crate::make_logs::make_cases;
+use crate::run::{Program, Trouble};
+use crate::shrink::shrink;
+use crate::tally::Tally;
+
+/// The number of random cases unless another is asked for.
+pub const DEFAULT_CASES: usize = 24_000;
+
+/// So many cases go into one run of COMMAND.
+const CASES_IN_ONE_RUN: usize = 6_000;
+
+/// Compares COMMAND with this program's own log reader.
+pub fn compare_logs(program: &Program, seed: u64, cases: usize) -> Verdict {
+    let mut words = format!("seed {}\n", seed);
+    let outcome = compare_all(program, seed, cases, &mut words);
+    Verdict::new(words, outcome)
+}
+
+/// Goes through all parts; the words of the first failure, or those of agreement.
+fn compare_all(
+    program: &Program,
+    seed: u64,
+    cases: usize,
+    words: &mut String,
+) -> Result<String, String> {
+    let fixed = fixed_cases();
+    let calls = compare_cases(program, "fixed", &fixed)?.calls;
+    *words += &format!(
+        "fixed cases agree: {} cases, {} calls\n",
+        fixed.len(),
+        calls
+    );
+    let inputs = head_inputs();
+    compare_heads(program, &inputs)?;
+    *words += &format!("faults of heads agree: {} inputs\n", inputs.len());
+    let made = make_cases(seed, cases);
+    let tally = compare_cases(program, "random", &made)?;
+    *words += &format!(
+        "random cases agree: {} cases, {} calls\n",
+        made.len(),
+        tally.calls
+    );
+    let (counts, complete) = tally.shown();
+    if complete {
+        Ok(counts)
+    } else {
+        Err(counts + "too few cases: not every possible answer and kind occurred\n")
+    }
+}
+
+/// Compares cases, many in one run; a failure is shown and shrunk.
+fn compare_cases(program: &Program, name: &str, cases: &[Case]) -> Result<Tally, String> {
+    let mut tally = Tally::default();
+    for (run, batch) in cases.chunks(CASES_IN_ONE_RUN).enumerate() {
+        if let Some(failing) = first_failing(program, batch).map_err(line)? {
+            let number = run * CASES_IN_ONE_RUN + failing.index;
+            let case = &batch[failing.index];
+            let what = format!("{} case {}: {}", name, number, case.shown());
+            return Err(failing.finding.shown(&what) + &shown_shrunk(program, case, &failing));
+        }
+        for case in batch {
+            case.own_calls().iter().for_each(|call| tally.add(call));
+        }
+    }
+    Ok(tally)
+}
+
+/// Words as a line.
+fn line(words: String) -> String {
+    words + "\n"
+}
+
+/// The shortest failing case found below a failing one, in words.
+fn shown_shrunk(program: &Program, case: &Case, failing: &Failing) -> String {
+    if !failing.alone {
+        return line("by itself this case agrees: it fails only among others".to_string());
+    }
+    match shrink(program, case) {
+        Err(words) => line(words),
+        Ok(shortest) => format!(
+            "shortest failing input found: {}\n{}",
+            shortest.shown(),
+            both_listings(program, &shortest)
+        ),
+    }
+}
+
+/// Both listings of one case.
+fn both_listings(program: &Program, case: &Case) -> String {
+    let batch = Batch::new(std::slice::from_ref(case));
+    let own = batch.listing.as_bytes();
+    let theirs = match program(&batch.input, 2 * own.len()) {
+        Ok(theirs) => shown_listing(&theirs),
+        Err(Trouble::Hopeless(words)) | Err(Trouble::Died(words)) => format!("    {}\n", words),
+    };
+    format!(
+        "  own listing:\n{}  COMMAND's listing:\n{}",
+        shown_listing(own),
+        theirs
+    )
+}
+
+/// Compares inputs that end in a fault of a head, each in a run of its own.
+fn compare_heads(program: &Program, inputs: &[Vec<u8>]) -> Result<(), String> {
+    for input in inputs {
+        let own = list_cases(input, &OWN_READER);
+        compare_input(program, input, &own).map_err(|finding| {
+            finding.shown(&format!("the whole input of logcases: {}", hex(input)))
+        })?;
+    }
+    Ok(())
+}

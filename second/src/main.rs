@@ -1,0 +1,84 @@
+//! The independent second program: its own reading of the papers, and the comparison with the
+//! proved programs by running both on the same inputs.
+
+#![forbid(unsafe_code)]
+
+mod case;
+mod compare;
+mod compare_entries;
+mod compare_logs;
+mod failing;
+mod fixed_cases;
+mod log;
+mod log_listing;
+mod make_entries;
+mod make_logs;
+mod make_numbers;
+mod rng;
+mod run;
+mod shrink;
+mod tally;
+mod use_words;
+
+#[cfg(test)]
+mod wrong_readers;
+
+use std::io::{self, Read, Write};
+use std::process::ExitCode;
+use use_words::{Subject, Use};
+
+/// Does what the command line asks for.
+fn main() -> ExitCode {
+    let words: Vec<_> = std::env::args_os().skip(1).collect();
+    let (text, code) = match use_words::parse(&words) {
+        Ok(Use::Help) => (use_words::HELP.to_string(), 0),
+        Ok(Use::Answer(subject)) => match answer(subject) {
+            Ok(listing) => (listing, 0),
+            Err(error) => return complain(&format!("standard input: {}", error), 1),
+        },
+        Ok(Use::Compare {
+            subject,
+            seed,
+            cases,
+            command,
+        }) => {
+            let verdict = compare(subject, seed, cases, &command);
+            (verdict.words, u8::from(!verdict.agreed))
+        }
+        Err(fault) => return complain(&format!("{}; see second --help", fault), 2),
+    };
+    match io::stdout().write_all(text.as_bytes()) {
+        Ok(()) => ExitCode::from(code),
+        Err(error) => complain(&format!("standard output: {}", error), 1),
+    }
+}
+
+/// Says on standard error what is wrong.
+fn complain(words: &str, code: u8) -> ExitCode {
+    eprintln!("second: {}", words);
+    ExitCode::from(code)
+}
+
+/// This program's own listing of standard input.
+fn answer(subject: Subject) -> io::Result<String> {
+    let mut input = Vec::new();
+    io::stdin().read_to_end(&mut input)?;
+    Ok(match subject {
+        Subject::Logs => log_listing::list_cases(&input, &log_listing::OWN_READER),
+        Subject::Entries => log_listing::list_entries(&input, &log_listing::OWN_READER),
+    })
+}
+
+/// The comparison asked for.
+fn compare(
+    subject: Subject,
+    seed: u64,
+    cases: usize,
+    command: &[std::ffi::OsString],
+) -> compare::Verdict {
+    let program = |input: &[u8], most: usize| run::run(command, input, most);
+    match subject {
+        Subject::Logs => compare_logs::compare_logs(&program, seed, cases),
+        Subject::Entries => compare_entries::compare_entries(&program, seed),
+    }
+}

@@ -1,0 +1,112 @@
+//! The command line: what is asked for, and the words of the help.
+
+use crate::compare_logs::DEFAULT_CASES;
+use std::ffi::OsString;
+
+pub const HELP: &str = "\
+second: the independent second program. It reads the papers its own way and
+compares the proved programs' listings (docs/FORMATS.md) with its own.
+
+  second compare logs [--seed N] [--cases N] -- COMMAND [ARGS..]
+      Random and damaged logs in the format of logcases. COMMAND reads them on
+      standard input, a few thousand in one run. N cases are made (24000 unless
+      said otherwise), besides the fixed ones. A mismatch is shrunk.
+  second compare entries [--seed N] -- COMMAND [ARGS..]
+      Whole logs in the format of entries, each in a run of COMMAND of its own.
+  second answer logs
+      Reads cases on standard input, prints the listing of logcases.
+  second answer entries
+      Reads a log on standard input, prints the listing of entries.
+  second --help
+      Prints this.
+
+Exit code: 0 all agree; 1 a mismatch, COMMAND failed, or an answer never
+occurred; 2 bad use. The seed is fixed unless --seed gives another.
+";
+
+/// The seed unless another is asked for.
+pub const DEFAULT_SEED: u64 = 260_560_830;
+
+/// What a comparison or an answer is about.
+#[derive(Clone, Copy, Debug, PartialEq, Eq)]
+pub enum Subject {
+    Logs,
+    Entries,
+}
+
+/// What is asked for.
+#[derive(Debug, PartialEq, Eq)]
+pub enum Use {
+    Help,
+    Answer(Subject),
+    Compare {
+        subject: Subject,
+        seed: u64,
+        cases: usize,
+        command: Vec<OsString>,
+    },
+}
+
+/// Reads the command line; words on bad use.
+pub fn parse(words: &[OsString]) -> Result<Use, String> {
+    let word = |position: usize| words.get(position).map(|word| word.to_string_lossy());
+    match word(0).as_deref() {
+        None => Err("nothing is asked for".to_string()),
+        Some("--help") | Some("-h") | Some("help") => Ok(Use::Help),
+        Some("answer") => {
+            let subject = parse_subject(word(1).as_deref())?;
+            match word(2) {
+                None => Ok(Use::Answer(subject)),
+                Some(extra) => Err(format!("'{}' is one word too many", extra)),
+            }
+        }
+        Some("compare") => parse_compare(parse_subject(word(1).as_deref())?, &words[2..]),
+        Some(other) => Err(format!("'{}' is neither compare nor answer", other)),
+    }
+}
+
+/// Reads what a comparison or an answer is about.
+fn parse_subject(word: Option<&str>) -> Result<Subject, String> {
+    match word {
+        Some("logs") => Ok(Subject::Logs),
+        Some("entries") => Ok(Subject::Entries),
+        Some(other) => Err(format!("'{}' is neither logs nor entries", other)),
+        None => Err("logs or entries must be named".to_string()),
+    }
+}
+
+/// Reads the options of a comparison and its COMMAND.
+fn parse_compare(subject: Subject, words: &[OsString]) -> Result<Use, String> {
+    let (mut seed, mut cases) = (DEFAULT_SEED, DEFAULT_CASES);
+    let mut rest = words.iter();
+    while let Some(word) = rest.next() {
+        match word.to_string_lossy().as_ref() {
+            "--" => {
+                let command: Vec<OsString> = rest.cloned().collect();
+                if command.is_empty() {
+                    return Err("no COMMAND behind --".to_string());
+                }
+                return Ok(Use::Compare {
+                    subject,
+                    seed,
+                    cases,
+                    command,
+                });
+            }
+            "--seed" => seed = parse_number("--seed", rest.next())?,
+            "--cases" if subject == Subject::Logs => {
+                cases = parse_number("--cases", rest.next())?;
+            }
+            other => return Err(format!("'{}' is not known here", other)),
+        }
+    }
+    Err("-- and a COMMAND are missing".to_string())
+}
+
+/// Reads the decimal number behind an option.
+fn parse_number<T: std::str::FromStr>(option: &str, word: Option<&OsString>) -> Result<T, String> {
+    let word = word.map(|word| word.to_string_lossy());
+    word.as_deref()
+        .and_then(|word| word.parse().ok())
+        .ok_or_else(|| format!("{} takes a decimal number", option))
+}

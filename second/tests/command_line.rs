@@ -1,0 +1,104 @@
+//! The program as it is run: exit codes and words.
+
+use std::io::Write;
+use std::process::{Command, Output, Stdio};
+
+const SECOND: &str = env!("CARGO_BIN_EXE_second");
+
+/// Runs the program with these words and this standard input.
+fn second(words: &[&str], input: &[u8]) -> Output {
+    let mut child = Command::new(SECOND)
+        .args(words)
+        .stdin(Stdio::piped())
+        .stdout(Stdio::piped())
+        .stderr(Stdio::piped())
+        .spawn()
+        .expect("the program starts");
+    child
+        .stdin
+        .take()
+        .expect("piped")
+        .write_all(input)
+        .expect("input is read");
+    child.wait_with_output().expect("the program ends")
+}
+
+/// The exit code and all words of a comparison with a command.
+fn compare(words: &[&str]) -> (Option<i32>, String) {
+    let output = second(&[&["compare"], words].concat(), b"");
+    let words = String::from_utf8(output.stdout).expect("text");
+    (output.status.code(), words)
+}
+
+#[test]
+fn it_agrees_with_itself() {
+    let (code, words) = compare(&["logs", "--", SECOND, "answer", "logs"]);
+    assert_eq!(code, Some(0), "{}", words);
+    assert!(
+        words.contains("random cases agree: 24000 cases"),
+        "{}",
+        words
+    );
+    let (code, words) = compare(&["entries", "--seed", "9", "--", SECOND, "answer", "entries"]);
+    assert_eq!(code, Some(0), "{}", words);
+    assert!(words.starts_with("seed 9\n"), "{}", words);
+}
+
+#[test]
+fn it_answers() {
+    let output = second(&["answer", "entries"], &[0, 0, 4, 2, 4]);
+    let title = "place kind first second third next\n";
+    let listing = format!("{}0 0 0 4 0 3\n3 2 0 0 0 4\n4 4 0 0 0 5\n", title);
+    assert_eq!(String::from_utf8(output.stdout), Ok(listing));
+    assert_eq!(output.status.code(), Some(0));
+}
+
+#[test]
+fn a_command_that_fails_is_said_to_fail() {
+    for (command, told) in [
+        (&["/no/such/program"][..], "cannot be started"),
+        (&["false"], "false died (exit status: 1)"),
+        (&["sh", "-c", "kill -9 $$"], "died (signal: 9"),
+        (&["cat"], "prints garbage"),
+        (&[SECOND, "--help"], "prints garbage"),
+    ] {
+        for subject in ["logs", "entries"] {
+            let (code, words) = compare(&[&[subject, "--"], command].concat());
+            assert_eq!(code, Some(1), "{}", words);
+            assert!(words.contains(told), "{}", words);
+        }
+    }
+}
+
+#[test]
+fn a_listing_cut_short_is_a_mismatch() {
+    for subject in ["logs", "entries"] {
+        let script = format!("'{}' answer {} | head -c 600", SECOND, subject);
+        let (code, words) = compare(&[subject, "--", "sh", "-c", &script]);
+        assert_eq!(code, Some(1), "{}", words);
+        assert!(words.contains("MISMATCH"), "{}", words);
+    }
+}
+
+#[test]
+fn bad_use_is_told() {
+    let bad: [&[&str]; 8] = [
+        &[],
+        &["compare"],
+        &["answer", "notes"],
+        &["answer", "logs", "more"],
+        &["compare", "logs"],
+        &["compare", "logs", "--"],
+        &["compare", "logs", "--seed", "x", "--", "cat"],
+        &["compare", "entries", "--cases", "5", "--", "cat"],
+    ];
+    for words in bad {
+        let output = second(words, b"");
+        assert_eq!(output.status.code(), Some(2), "{:?}", words);
+        assert!(
+            !output.stderr.is_empty() && output.stdout.is_empty(),
+            "{:?}",
+            words
+        );
+    }
+}
