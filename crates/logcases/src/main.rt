@@ -1,0 +1,174 @@
+// Reads many small logs in one run and shows what the log reader answers at each place.
+ghost use Prim.Native.Nat.{_≤_};
+ghost use lib.ListN.{length};
+use benchlog::Fault;
+use benchlog::Fields;
+use benchlog::Numeral;
+use stdio::Listing;
+
+// What reading a number gives, as numbers: 0, the number and the place after it, or the refusal's
+// number, 0 and the place that was given.
+struct Number {
+    answer: u32,
+    value: u32,
+    after: usize,
+}
+
+// A case: 0, or a refusal's number; its start, and where its bytes stand.
+struct Case {
+    answer: u32,
+    start: usize,
+    from: usize,
+    to: usize,
+}
+
+// The number at a place.
+fn number_at(log: &[u8], at: usize) -> Number {
+    match benchlog::read_number(log, at) {
+        Numeral::Value(value, after) => Number {
+            answer: 0,
+            value,
+            after,
+        },
+        Numeral::Refused(fault, place) => Number {
+            answer: benchlog::fault_number(fault),
+            value: 0,
+            after: place,
+        },
+    }
+}
+
+// A number of a head, of 0 to `most`.
+fn head_number(input: &[u8], at: usize, most: u32) -> Number {
+    let n = number_at(input, at);
+    if n.value > most {
+        return Number {
+            answer: benchlog::fault_number(Fault::OutOfRange),
+            value: 0,
+            after: at,
+        };
+    }
+    n
+}
+
+// A case that is refused.
+fn refused(answer: u32) -> Case
+    ensures { λ r. ⌜ (r .from ≤ 0) × (r .to ≤ 0) ⌝ }
+{
+    Case {
+        answer,
+        start: 0,
+        from: 0,
+        to: 0,
+    }
+}
+
+// The case at a place.
+fn read_case(input: &[u8], at: usize) -> Case
+    ensures { λ r. ⌜ (r .from ≤ r .to) × (r .to ≤ length (now (input .entry))) ⌝ }
+{
+    let start = head_number(input, at, 65535);
+    if start.answer != 0 {
+        return refused(start.answer);
+    }
+    let bytes = head_number(input, start.after, 60000);
+    if bytes.answer != 0 {
+        return refused(bytes.answer);
+    }
+    let from = bytes.after;
+    let many = bytes.value as usize;
+    if from > input.len() {
+        return refused(benchlog::fault_number(Fault::Ends));
+    }
+    if many > input.len() - from {
+        return refused(benchlog::fault_number(Fault::Ends));
+    }
+    Case {
+        answer: 0,
+        start: start.value as usize,
+        from,
+        to: from + many,
+    }
+}
+
+// Puts the line of a call.
+fn put_call(out: &mut [u8], at: usize, e: Fields, n: Number) -> usize {
+    let numbers = [
+        e.answer as u64,
+        e.kind as u64,
+        e.first as u64,
+        e.second as u64,
+        e.third as u64,
+        e.place as u64,
+        n.answer as u64,
+        n.value as u64,
+        n.after as u64,
+    ];
+    let room = stdio::make_room(out, at, 189);
+    text::put_line(out, room, &numbers)
+}
+
+// Puts the lines of a case. A log of n bytes has at most n entries, and a refusal behind them.
+fn put_case(log: &[u8], start: usize, out: &mut [u8], at: usize) -> usize {
+    let mut place = start;
+    let mut p = at;
+    let mut answer = 0;
+    let mut i = 0;
+    while i <= log.len() && answer == 0 {
+        let e = benchlog::numbers_of(benchlog::read_entry(log, place));
+        p = put_call(out, p, e, number_at(log, place));
+        answer = e.answer;
+        place = e.place;
+        i += 1;
+    }
+    p
+}
+
+// Lists the case that comes next, or reads on, or ends the listing.
+fn turn(buf: &mut [u8], out: &mut [u8], l: Listing) -> Listing
+    requires { ⌜ l .have ≤ length (now buf) ⌝ }
+    ensures { λ r. ⌜ r .have ≤ length (now (buf .entry)) ⌝ }
+{
+    let have = l.have;
+    let c = read_case(&buf[..have], l.used);
+    if c.answer == 0 {
+        let from = c.from;
+        let to = c.to;
+        let at = put_case(&buf[from..to], c.start, out, l.at);
+        return Listing {
+            used: to,
+            have,
+            ended: l.ended,
+            base: l.base,
+            at,
+            more: l.more,
+        };
+    }
+    if !l.ended && c.answer == benchlog::fault_number(Fault::Ends) {
+        return stdio::read_on(buf, l);
+    }
+    stdio::end(out, l, c.answer)
+}
+
+// The whole listing.
+fn run(buf: &mut [u8], out: &mut [u8]) {
+    let at = text::put_text(
+        out,
+        0,
+        b"answer kind first second third place number value after\n",
+    );
+    let mut l = stdio::begin(at);
+    let mut turns = u64::MAX;
+    while turns > 0 && l.more {
+        l = turn(buf, out, l);
+        turns -= 1;
+    }
+    stdio::flush(out, l.at);
+}
+
+// The two buffers, of 64 KiB each.
+fn main() {
+    let mut buf = [0u8; 65536];
+    let mut out = [0u8; 65536];
+    run(&mut buf, &mut out);
+}

@@ -1,0 +1,48 @@
+-- Bytes that are moved to the front of their buffer, one after the other. Assumes nothing.
+use Prim.Native.Nat.{ℕ, zero, suc, _+_, _<_}
+use mathlib.Core.Path.{_≡_, refl, sym, ap, ap₂, _∙_}
+use mathlib.Core.List.{List, [], _∷_, _++_}
+use native.Mathlib.Numerals.{add-one}
+use native.Mathlib.Omega.{arith}
+use borrow.Author.Tests.{eq-eqb, ne-eqb}
+use lib.Dec.{eqb}
+use lib.ListN.{length, getD, set, take, drop, length-set, length-drop}
+use lib.Seq.{take-suc, take-suc-set, drop-set-lt, drop-drop, getD-drop}
+
+-- of buf₀'s bytes from `used` on the first i stand at the front of buf; behind them nothing has changed
+pub record Moved (buf₀ : List ℕ) (used : ℕ) (buf : List ℕ) (i : ℕ) : Type 0 where
+  pub len : length buf ≡ length buf₀
+  pub front : take i buf ≡ take i (drop used buf₀)
+  pub behind : drop i buf ≡ drop i buf₀
+
+pub start : (buf : List ℕ) (used : ℕ) → Moved buf used buf 0
+start buf used = record { len = refl; front = refl; behind = refl }
+
+-- the next byte is moved
+pub one : (buf₀ : List ℕ) (used : ℕ) (buf : List ℕ) (i : ℕ) → used + i < length buf₀ → Moved buf₀ used buf i
+    → Moved buf₀ used (set buf i (getD buf (used + i) 0)) (i + 1)
+one buf₀ used buf i h m =
+    let same : getD buf (used + i) 0 ≡ getD (drop used buf₀) i 0 =
+    ap (λ (k : ℕ). getD buf k 0) (omega arith)
+    ∙ sym (getD-drop i buf used 0)
+    ∙ ap (λ (l : List ℕ). getD l used 0) (m .behind)
+    ∙ getD-drop i buf₀ used 0
+    ∙ ap (λ (k : ℕ). getD buf₀ k 0) (omega arith)
+    ∙ sym (getD-drop used buf₀ i 0) in
+    let v : ℕ = getD buf (used + i) 0 in
+    let l : i < length buf = omega (arith, m .len) in
+    record {
+      len = length-set buf i v ∙ m .len;
+      front =
+          ap (λ (k : ℕ). take k (set buf i v)) (add-one i)
+          ∙ take-suc-set buf i v l
+          ∙ ap₂ (λ (x : List ℕ) (w : ℕ). x ++ (w ∷ [])) (m .front) same
+          ∙ sym (take-suc (drop used buf₀) i 0 (rw length-drop (omega arith)))
+          ∙ ap (λ (k : ℕ). take k (drop used buf₀)) (sym (add-one i));
+      behind = drop-set-lt (i + 1) buf i v (omega arith) ∙ sym (drop-drop 1 i buf) ∙ ap (drop 1) (m .behind) ∙ drop-drop 1 i buf₀;
+    }
+
+-- that nothing was read, told of the bytes read or of all
+pub nothing-read : (left n : ℕ) → eqb n 0 ≡ eqb (left + n) left
+nothing-read left zero = sym (eq-eqb (left + 0) left (omega arith))
+nothing-read left (suc n) = ne-eqb (suc n) 0 (λ e. omega arith) ∙ sym (ne-eqb (left + suc n) left (λ e. omega arith))

@@ -1,0 +1,74 @@
+-- Bytes put into a buffer: where they fit and where not, the buffer's length, and two puts that are one. Assumes nothing.
+use Prim.Native.Nat.{ℕ, _+_, _≤_, _<_}
+use mathlib.Core.Path.{_≡_, sym, ap, ap₂, _∙_}
+use mathlib.Core.Bool.{Bool, true, false, cond}
+use mathlib.Core.List.{List, [], _++_, append-assoc}
+use native.Mathlib.Omega.{arith}
+use borrow.Author.Tests.{le-leb, lt-leb}
+use lib.Dec.{leb}
+use lib.ListN.{length, take, drop, length-append, length-drop}
+use lib.Seq.{length-take-le, take-at, drop-append-add, drop-drop, paste, paste-zero, take-length}
+use Rattle.text.specs.Text.{put, after}
+
+module _ (out : List ℕ) (at : ℕ) (ws : List ℕ) where
+  -- the bytes fit
+  module _ (h : at + length ws ≤ length out) where
+    pub put-fits : put out at ws ≡ take at out ++ ws ++ drop (at + length ws) out
+    unfolding put
+    put-fits = rw (le-leb (at + length ws) (length out) h)
+
+    pub after-fits : after out at ws ≡ at + length ws
+    unfolding after
+    after-fits = rw (le-leb (at + length ws) (length out) h)
+
+    pub put-paste : put out at ws ≡ paste out at ws (length ws)
+    put-paste = rw (put-fits, take-length)
+
+    pub head-length : length (take at out ++ ws) ≡ at + length ws
+    head-length = length-append (take at out) ws ∙ ap (λ (n : ℕ). n + length ws) (length-take-le at out (omega arith))
+
+    pub length-put : length (put out at ws) ≡ length out
+    length-put = rw (put-fits, length-append, head-length, length-drop) (omega arith)
+
+  -- they do not
+  module _ (h : length out < at + length ws) where
+    pub put-over : put out at ws ≡ out
+    unfolding put
+    put-over = rw (lt-leb (at + length ws) (length out) h)
+
+    pub after-over : after out at ws ≡ at
+    unfolding after
+    after-over = rw (lt-leb (at + length ws) (length out) h)
+
+-- whether they fit or not, the place is at most that after them
+pub after-most : (out : List ℕ) (at : ℕ) (ws : List ℕ) (r : ℕ) → r ≡ after out at ws → r ≤ at + length ws
+unfolding after
+after-most out at ws r e = rw e (go (leb (at + length ws) (length out)))
+  where
+    go : (b : Bool) → cond b (at + length ws) at ≤ at + length ws
+    go true = omega arith
+    go false = omega arith
+
+pub put-nil : (out : List ℕ) (at : ℕ) → at ≤ length out → put out at [] ≡ out
+put-nil out at h = put-fits out at [] (omega arith) ∙ sym (paste-zero out at [])
+
+-- what is put behind a put is put with it
+pub put-more : (out : List ℕ) (at : ℕ) (a b : List ℕ) → at + length a + length b ≤ length out
+    → put (put out at a) (at + length a) b ≡ put out at (a ++ b)
+put-more out at a b h =
+    let h₁ : at + length a ≤ length out = omega arith in
+    let p : List ℕ = take at out ++ a in
+    let rest : List ℕ = drop (at + length a) out in
+    let l : length p ≡ at + length a = head-length out at a h₁ in
+    let e : put out at a ≡ p ++ rest = put-fits out at a h₁ in
+    let m : at + length a + length b ≡ at + length (a ++ b) = simp length-append (omega arith) in
+    let front : take (at + length a) (put out at a) ≡ p = ap (take (at + length a)) e ∙ take-at p rest (at + length a) l in
+    let back : drop (at + length a + length b) (put out at a) ≡ drop (at + length a + length b) out =
+    ap (drop (at + length a + length b)) e
+    ∙ ap (λ (n : ℕ). drop (n + length b) (p ++ rest)) (sym l)
+    ∙ drop-append-add p rest (length b)
+    ∙ drop-drop (length b) (at + length a) out in
+    put-fits (put out at a) (at + length a) b (rw (length-put out at a h₁) h)
+    ∙ ap₂ (λ (x y : List ℕ). x ++ b ++ y) front back
+    ∙ ap₂ (λ (x : List ℕ) (n : ℕ). x ++ drop n out) (append-assoc (take at out) a b) m
+    ∙ sym (put-fits out at (a ++ b) (omega arith))
