@@ -53,11 +53,14 @@ pub fn refill(buf: &mut [u8], used: usize, have: usize) -> Window
     }
 }
 
-// Writes the first `at` bytes to standard output.
-pub fn flush(out: &[u8], at: usize) {
+// Writes the first `at` bytes to standard output and answers the place from which the buffer is free.
+pub fn flush(out: &[u8], at: usize) -> usize
+    ensures { λ r. ⌜ r ≡ 0 ⌝ }
+{
     if at <= out.len() {
         io::write_all(1, &out[..at]);
     }
+    0
 }
 
 // The place at which `want` bytes more can be put: `at`, or 0 after what stands before it is written.
@@ -67,8 +70,7 @@ pub fn make_room(out: &[u8], at: usize, want: usize) -> usize
     if text::fits(out, at, want) {
         return at;
     }
-    flush(out, at);
-    0
+    flush(out, at)
 }
 
 // Moves the `left` bytes from `used` on to the front.

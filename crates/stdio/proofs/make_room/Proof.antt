@@ -14,7 +14,7 @@ flush-requires : tie.Need-flush-requires
 flush-requires c κs = search needs
 
 returns-2 : tie.Need-returns-2
-returns-2 c = rw (sym (c .before .before .fits2 .ensures) ∙ c .before .if1 .left)
+returns-2 c = rw (sym (c .before .before .fits2 .ensures) ∙ c .before .if1 .left) (c .flush .ensures)
 
 pub make-room-spec : {M : Type 1} → statement M
 make-room-spec = tie.close (tie.spec fits-requires returns flush-requires returns-2)
