@@ -12,7 +12,7 @@ use Rattle.benchlog.specs.declared.Numeral.{Numeral}
 use Rattle.benchlog.specs.declared.Numeral.the-variants as numeral
 use Rattle.benchlog.specs.declared.Reading.{Reading}
 use Rattle.benchlog.specs.declared.Reading.the-variants as reading
-use Rattle.benchlog.specs.Number.{lastGroup, groups, numberAt}
+use Rattle.benchlog.specs.Number.{lastGroup, group, groups, numberAt}
 use Rattle.benchlog.specs.Entries.{within, argumentAt, widthAt, dataLimit, then, pulseAt, vetoAt, readAt, writeAt, kindAt, entryAt}
 
 -- behind `at` and in the log
@@ -36,14 +36,16 @@ module _ (log : List ℕ) (at : ℕ) where
   last-place : (g sum b : ℕ) → at + g < length log → NumeralPlace log at (lastGroup at g sum b)
   last-place g sum b h = picked (NumeralPlace log at) (eqb b 0) (λ e. refl) (omega arith)
 
+  group-place : (g sum limit : ℕ) (over : Numeral) → NumeralPlace log at over → NumeralPlace log at (group log at g sum limit over)
+  unfolding group
+  group-place g sum limit over p =
+      picked (NumeralPlace log at) (ltb (at + g) (length log))
+      (λ e. picked (NumeralPlace log at) (ltb limit (getD log (at + g) 0)) (λ f. p) (last-place g sum (getD log (at + g) 0) (ltb-true _ _ e))) refl
+
   groups-place : (more g sum : ℕ) → NumeralPlace log at (groups more log at g sum)
   unfolding groups
-  groups-place zero g sum =
-      picked (NumeralPlace log at) (ltb (at + g) (length log))
-      (λ e. picked (NumeralPlace log at) (ltb 15 (getD log (at + g) 0)) (λ f. refl) (last-place g sum (getD log (at + g) 0) (ltb-true _ _ e))) refl
-  groups-place (suc more) g sum =
-      picked (NumeralPlace log at) (ltb (at + g) (length log))
-      (λ e. picked (NumeralPlace log at) (ltb 127 (getD log (at + g) 0)) (λ f. groups-place more (suc g) _) (last-place g sum (getD log (at + g) 0) (ltb-true _ _ e))) refl
+  groups-place zero g sum = group-place g sum _ _ refl
+  groups-place (suc more) g sum = group-place g sum _ _ (groups-place more (suc g) _)
 
   pub number-place : NumeralPlace log at (numberAt log at)
   unfolding numberAt

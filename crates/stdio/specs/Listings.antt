@@ -1,5 +1,5 @@
--- A listing under way: "A fault ends the listing with the line `fault NUMBER PLACE`, PLACE being the byte, counted from 0, at which the faulty
--- entry (or head) begins." Assumes nothing.
+-- A listing under way; docs/FORMATS.md: "A fault ends the listing with the line `fault NUMBER PLACE`, PLACE being the byte, counted from 0, at
+-- which the faulty entry (or head) begins." Assumes nothing.
 use Prim.Native.Nat.{ℕ, _+_, _%_, _^_}
 use mathlib.Core.Path.{_≡_}
 use mathlib.Core.Bool.{true, false, cond}

@@ -1,5 +1,5 @@
--- The lines of a listing: "decimal numbers separated by single blanks, each line ended by a line feed" and "the line `fault NUMBER PLACE`".
--- Assumes nothing.
+-- The lines of a listing, as docs/FORMATS.md has them: "decimal numbers separated by single blanks, each line ended by a line feed" and "the
+-- line `fault NUMBER PLACE`". Assumes nothing.
 use Prim.Native.Nat.{ℕ, _+_}
 use mathlib.Core.Bool.{cond}
 use mathlib.Core.List.{List, [], _∷_, _++_}

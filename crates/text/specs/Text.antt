@@ -1,4 +1,4 @@
--- Text in a buffer: "print decimal numbers". A byte is its ASCII code. Assumes nothing.
+-- Text in a buffer; docs/FORMATS.md: "print decimal numbers". A byte is its ASCII code. Assumes nothing.
 use Prim.Native.Nat.{ℕ, zero, suc, _+_, _/_, _%_}
 use mathlib.Core.Bool.{cond}
 use mathlib.Core.List.{List, [], _∷_, _++_}

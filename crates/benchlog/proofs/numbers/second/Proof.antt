@@ -1,6 +1,7 @@
 -- What stands at the group's place, by the laws of Groups. Assumes nothing.
 use mathlib.Core.Path.{_∙_}
-use Rattle.benchlog.proofs.Groups.{ends, goes-on, not-shortest, last}
+use Rattle.benchlog.specs.Number.{groups}
+use Rattle.benchlog.proofs.Groups.{ends, above, not-shortest, last}
 use borrow.Author.Needs.{needs}
 use Rattle.benchlog.proofs.numbers.second.Statement.{statement}
 use Rattle.benchlog.proofs.numbers.second.Tie as tie
@@ -9,7 +10,8 @@ add-if1 : tie.Need-add-if1
 add-if1 c = search needs
 
 returns : tie.Need-returns
-returns c = ends 3 _ _ 1 _ (c .if1 .taken)
+unfolding groups
+returns c = ends _ _ 1 _ _ _ (c .if1 .taken)
 
 add-wide : tie.Need-add-wide
 add-wide c = search needs
@@ -33,10 +35,12 @@ third-requires : tie.Need-third-requires
 third-requires c κs = search needs
 
 returns-2 : tie.Need-returns-2
-returns-2 c = let w = c .before .before in c .third .ensures ∙ goes-on 2 _ _ 1 _ (w .before .before .if1 .left) _ (w .wide .ensures .0) (c .before .if2 .taken)
+unfolding groups
+returns-2 c = let w = c .before .before in c .third .ensures ∙ rw (w .wide .ensures .0) (above _ _ 1 _ _ _ (w .before .before .if1 .left) _ (w .wide .ensures .0) (c .before .if2 .taken))
 
 returns-3 : tie.Need-returns-3
-returns-3 c = let w = c .before .before in not-shortest 2 _ _ 1 _ (w .before .before .if1 .left) _ (w .wide .ensures .0) (c .before .if2 .left) (c .if3 .taken)
+unfolding groups
+returns-3 c = let w = c .before .before in not-shortest _ _ 1 _ _ _ (w .before .before .if1 .left) _ (w .wide .ensures .0) (c .before .if2 .left) (c .if3 .taken)
 
 mul-t15 : tie.Need-mul-t15
 mul-t15 c = search needs
@@ -48,7 +52,8 @@ add-t6 : tie.Need-add-t6
 add-t6 c = search needs
 
 returns-4 : tie.Need-returns-4
-returns-4 c = let w = c .before .before in last 2 _ _ 1 _ (w .before .before .if1 .left) _ (w .wide .ensures .0) (c .before .if2 .left) (c .if3 .left)
+unfolding groups
+returns-4 c = let w = c .before .before in last _ _ 1 _ _ _ (w .before .before .if1 .left) _ (w .wide .ensures .0) (c .before .if2 .left) (c .if3 .left)
 
 pub second-spec : {M : Type 1} → statement M
 second-spec =
