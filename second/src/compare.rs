@@ -43,7 +43,7 @@ pub fn first_difference(own: &[u8], theirs: &[u8]) -> Option<Difference> {
 }
 
 /// The longest piece of a line that is shown.
-const LONGEST_SHOWN: usize = 200;
+const LONGEST_SHOWN: usize = 720;
 
 /// A line as it is shown: odd bytes visible, a missing line or line feed said.
 fn shown_line(line: Option<&[u8]>) -> String {

@@ -2,19 +2,14 @@
 
 use crate::case::hex;
 use crate::compare::Verdict;
-use crate::failing::{compare_input, Finding};
+use crate::failing::Finding;
 use crate::log::read_entry;
 use crate::log_listing::{list_entries, OWN_READER};
 use crate::make_entries::good_log;
 use crate::make_logs::damage;
 use crate::rng::Rng;
 use crate::run::Program;
-
-/// A log and what it is.
-struct Log {
-    name: String,
-    bytes: Vec<u8>,
-}
+use crate::runs::{first_failing_input, Input};
 
 /// Ends of a log with each fault, or none, at each argument; some are followed by a good entry.
 const ENDS: [&[u8]; 31] = [
@@ -61,13 +56,11 @@ pub fn compare_entries(program: &Program, seed: u64) -> Verdict {
 }
 
 /// Goes through the logs; the words of the first failure, or those of agreement.
-fn compare_all(program: &Program, logs: &[Log]) -> Result<String, String> {
-    for log in logs {
-        let own = list_entries(&log.bytes, &OWN_READER);
-        compare_input(program, &log.bytes, &own).map_err(|finding| {
-            let what = format!("{}: {}", log.name, hex(&log.bytes));
-            finding.shown(&what) + &shown_entry(&log.bytes, &finding)
-        })?;
+fn compare_all(program: &Program, logs: &[Input]) -> Result<String, String> {
+    let list = |bytes: &[u8]| list_entries(bytes, &OWN_READER);
+    if let Some((log, finding)) = first_failing_input(program, logs, &list) {
+        let finding = finding.about_title();
+        return Err(finding.shown(&log.shown()) + &shown_entry(&log.bytes, &finding));
     }
     let bytes: usize = logs.iter().map(|log| log.bytes.len()).sum();
     Ok(format!(
@@ -90,11 +83,11 @@ fn shown_entry(bytes: &[u8], finding: &Finding) -> String {
 }
 
 /// All logs of the comparison.
-fn make_plain_logs(seed: u64) -> Vec<Log> {
+fn make_plain_logs(seed: u64) -> Vec<Input> {
     let mut rng = Rng::new(seed);
     let long = long_log(&mut rng);
     let mut logs = Vec::new();
-    let mut add = |name: String, bytes: Vec<u8>| logs.push(Log { name, bytes });
+    let mut add = |name: String, bytes: Vec<u8>| logs.push(Input { name, bytes });
     add("the empty log".to_string(), Vec::new());
     add("the long log".to_string(), long.clone());
     for cut in 1..=12 {

@@ -1,12 +1,12 @@
 //! `compare logs`: the fixed cases, the head faults and the random cases against COMMAND.
 
 use crate::case::{hex, Batch, Case};
-use crate::compare::{shown_listing, Verdict};
-use crate::failing::{compare_input, first_failing, Failing};
+use crate::compare::Verdict;
+use crate::failing::{both_listings, compare_input, first_failing, Failing};
 use crate::fixed_cases::{fixed_cases, head_inputs};
 use crate::log_listing::{list_cases, OWN_READER};
 use crate::make_logs::make_cases;
-use crate::run::{Program, Trouble};
+use crate::run::Program;
 use crate::shrink::shrink;
 use crate::tally::Tally;
 
@@ -84,27 +84,15 @@ fn shown_shrunk(program: &Program, case: &Case, failing: &Failing) -> String {
     }
     match shrink(program, case) {
         Err(words) => line(words),
-        Ok(shortest) => format!(
-            "shortest failing input found: {}\n{}",
-            shortest.shown(),
-            both_listings(program, &shortest)
-        ),
+        Ok(shortest) => {
+            let batch = Batch::new(std::slice::from_ref(&shortest));
+            format!(
+                "shortest failing input found: {}\n{}",
+                shortest.shown(),
+                both_listings(program, &batch.input, &batch.listing)
+            )
+        }
     }
-}
-
-/// Both listings of one case.
-fn both_listings(program: &Program, case: &Case) -> String {
-    let batch = Batch::new(std::slice::from_ref(case));
-    let own = batch.listing.as_bytes();
-    let theirs = match program(&batch.input, 2 * own.len()) {
-        Ok(theirs) => shown_listing(&theirs),
-        Err(Trouble::Hopeless(words)) | Err(Trouble::Died(words)) => format!("    {}\n", words),
-    };
-    format!(
-        "  own listing:\n{}  COMMAND's listing:\n{}",
-        shown_listing(own),
-        theirs
-    )
 }
 
 /// Compares inputs that end in a fault of a head, each in a run of its own.
@@ -112,7 +100,8 @@ fn compare_heads(program: &Program, inputs: &[Vec<u8>]) -> Result<(), String> {
     for input in inputs {
         let own = list_cases(input, &OWN_READER);
         compare_input(program, input, &own).map_err(|finding| {
-            finding.shown(&format!("the whole input of logcases: {}", hex(input)))
+            let what = format!("the whole input of logcases: {}", hex(input));
+            finding.about_title().shown(&what)
         })?;
     }
     Ok(())

@@ -1,7 +1,8 @@
-//! Finds the first of many cases on which a program's `logcases` listing differs from this program's.
+//! Finds what is wrong with a program's listing of an input, and the first of many cases of
+//! `logcases` on which it differs from this program's.
 
 use crate::case::{Batch, Case};
-use crate::compare::{first_difference, Difference};
+use crate::compare::{first_difference, shown_listing, Difference};
 use crate::run::{Program, Trouble};
 
 /// How much longer than expected a listing may be and still be read whole.
@@ -47,10 +48,22 @@ pub fn compare_input(program: &Program, input: &[u8], own: &str) -> Result<(), F
         Err(Trouble::Hopeless(words)) | Err(Trouble::Died(words)) => Err(Finding::Fails(words)),
         Ok(theirs) => match first_difference(own, &theirs) {
             None => Ok(()),
-            Some(found) if found.line == 0 => Err(Finding::Fails(garbage(&found))),
             Some(found) => Err(Finding::Differs(found)),
         },
     }
+}
+
+/// Both listings of one input.
+pub fn both_listings(program: &Program, input: &[u8], own: &str) -> String {
+    let theirs = match program(input, 2 * own.len() + SPARE) {
+        Ok(theirs) => shown_listing(&theirs),
+        Err(Trouble::Hopeless(words)) | Err(Trouble::Died(words)) => format!("    {}\n", words),
+    };
+    format!(
+        "  own listing:\n{}  COMMAND's listing:\n{}",
+        shown_listing(own.as_bytes()),
+        theirs
+    )
 }
 
 /// The words for a program that does not print this listing at all.
@@ -110,6 +123,14 @@ fn first_dying(program: &Program, cases: &[Case], words: String) -> Result<Faili
 }
 
 impl Finding {
+    /// The finding about a listing that always has its title: a differing first line is garbage.
+    pub fn about_title(self) -> Finding {
+        match self {
+            Finding::Differs(found) if found.line == 0 => Finding::Fails(garbage(&found)),
+            other => other,
+        }
+    }
+
     /// What is wrong with `what`, in words.
     pub fn shown(&self, what: &str) -> String {
         match self {

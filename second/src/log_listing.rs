@@ -1,6 +1,7 @@
 //! The listings `logcases` and `entries` of docs/FORMATS.md, made by a log reader.
 
-use crate::log::{self, Entry, Number, LOG_ENDS, OUT_OF_RANGE};
+use crate::head::{head_numbers, put_fault};
+use crate::log::{self, Entry, Number, LOG_ENDS};
 use std::fmt::Write;
 
 pub const CASES_TITLE: &str = "answer kind first second third place number value after\n";
@@ -60,26 +61,13 @@ pub fn put_call(listing: &mut String, call: &Call) {
     .expect("a String takes every line");
 }
 
-/// Adds the line that ends a listing with a fault.
-fn put_fault(listing: &mut String, answer: u32, place: usize) {
-    writeln!(listing, "fault {} {}", answer, place).expect("a String takes every line");
-}
-
-/// A number of a case's head, at most `largest`, and the place after it.
-fn head_number(input: &[u8], place: usize, largest: u32) -> Result<(usize, usize), u32> {
-    let (value, after) = log::number_at(input, place)?;
-    if value > largest {
-        return Err(OUT_OF_RANGE);
-    }
-    Ok((value as usize, after))
-}
-
 /// The case at `place`: its start, its bytes and the place after it.
 fn case_at(input: &[u8], place: usize) -> Result<(usize, &[u8], usize), u32> {
-    let (start, next) = head_number(input, place, LARGEST_START)?;
-    let (length, next) = head_number(input, next, LARGEST_LENGTH)?;
-    let bytes = input.get(next..next + length).ok_or(LOG_ENDS)?;
-    Ok((start, bytes, next + length))
+    let largest = [LARGEST_START, LARGEST_LENGTH];
+    let ([start, length], next) = head_numbers(input, place, &largest)?;
+    let after = next + length as usize;
+    let bytes = input.get(next..after).ok_or(LOG_ENDS)?;
+    Ok((start as usize, bytes, after))
 }
 
 /// The whole `logcases` listing of an input.

@@ -3,23 +3,44 @@
 
 #![forbid(unsafe_code)]
 
+mod block;
+mod blocks_listing;
+mod break_events;
+mod break_heads;
 mod case;
 mod compare;
+mod compare_blocks;
 mod compare_entries;
 mod compare_logs;
+mod compare_makeblock;
 mod failing;
+mod fixed_blocks;
 mod fixed_cases;
+mod fixed_requests;
+mod head;
 mod log;
 mod log_listing;
+mod long_blocks;
+mod make_blocks;
 mod make_entries;
+mod make_events;
 mod make_logs;
 mod make_numbers;
+mod make_requests;
+mod makeblock_listing;
 mod rng;
 mod run;
+mod runs;
 mod shrink;
 mod tally;
 mod use_words;
 
+#[cfg(test)]
+mod wrong_block_listings;
+#[cfg(test)]
+mod wrong_block_readers;
+#[cfg(test)]
+mod wrong_block_writers;
 #[cfg(test)]
 mod wrong_readers;
 
@@ -66,6 +87,8 @@ fn answer(subject: Subject) -> io::Result<String> {
     Ok(match subject {
         Subject::Logs => log_listing::list_cases(&input, &log_listing::OWN_READER),
         Subject::Entries => log_listing::list_entries(&input, &log_listing::OWN_READER),
+        Subject::Blocks => blocks_listing::own_blocks(&input),
+        Subject::Makeblock => makeblock_listing::own_makeblock(&input),
     })
 }
 
@@ -80,5 +103,7 @@ fn compare(
     match subject {
         Subject::Logs => compare_logs::compare_logs(&program, seed, cases),
         Subject::Entries => compare_entries::compare_entries(&program, seed),
+        Subject::Blocks => compare_blocks::compare_blocks(&program, seed, cases),
+        Subject::Makeblock => compare_makeblock::compare_makeblock(&program, seed, cases),
     }
 }

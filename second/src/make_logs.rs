@@ -33,23 +33,10 @@ pub fn make_cases(seed: u64, count: usize) -> Vec<Case> {
     let mut rng = Rng::new(seed);
     let mut cases = Vec::new();
     while cases.len() < count {
-        choose(&mut rng)(&mut rng, &mut cases);
+        rng.pick_by_share(&MAKERS)(&mut rng, &mut cases);
     }
     cases.truncate(count);
     cases
-}
-
-/// The maker whose turn it is.
-fn choose(rng: &mut Rng) -> Maker {
-    let turns: usize = MAKERS.iter().map(|(share, _)| share).sum();
-    let mut turn = rng.below(turns);
-    for (share, maker) in MAKERS {
-        if turn < share {
-            return maker;
-        }
-        turn -= share;
-    }
-    unreachable!("a turn below the sum of the shares")
 }
 
 /// Good entries only; the log ends between two of them.

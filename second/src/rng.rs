@@ -43,4 +43,17 @@ impl Rng {
     pub fn pick<T: Copy>(&mut self, things: &[T]) -> T {
         things[self.below(things.len())]
     }
+
+    /// One of the things given, each as often as its share says.
+    pub fn pick_by_share<T: Copy>(&mut self, things: &[(usize, T)]) -> T {
+        let turns: usize = things.iter().map(|(share, _)| share).sum();
+        let mut turn = self.below(turns);
+        for (share, thing) in things {
+            if turn < *share {
+                return *thing;
+            }
+            turn -= share;
+        }
+        unreachable!("a turn below the sum of the shares")
+    }
 }

@@ -22,7 +22,7 @@ pub enum Trouble {
 }
 
 /// A program under comparison: an input and the most bytes of listing worth reading, to its listing.
-pub type Program<'a> = dyn Fn(&[u8], usize) -> Result<Vec<u8>, Trouble> + 'a;
+pub type Program<'a> = dyn Fn(&[u8], usize) -> Result<Vec<u8>, Trouble> + Sync + 'a;
 
 /// The command as it was given, for messages.
 pub fn shown(command: &[OsString]) -> String {

@@ -1,4 +1,5 @@
-//! Makes a failing case as small as it gets: fewer bytes, then a lower start, then lower bytes.
+//! Makes a failing case as small as it gets: fewer bytes, then a lower start, then lower bytes;
+//! and a failing input of a run of its own as small as few runs make it.
 
 use crate::case::Case;
 use crate::failing::first_failing;
@@ -50,6 +51,36 @@ fn first_of(
         }
     }
     Ok(None)
+}
+
+/// A smaller input that fails too, not more than `runs` being tried.
+pub fn shrink_input(fails: &dyn Fn(&[u8]) -> bool, failing: &[u8], runs: usize) -> Vec<u8> {
+    let mut smallest = failing.to_vec();
+    let mut left = runs;
+    let mut still_fails = |smaller: &Vec<u8>| {
+        let tried = left > 0;
+        left = left.saturating_sub(1);
+        tried && fails(smaller)
+    };
+    while let Some(smaller) = smaller_inputs(&smallest).into_iter().find(&mut still_fails) {
+        smallest = smaller;
+    }
+    smallest
+}
+
+/// The inputs one step below an input: less a stretch, long ones first, or with one byte 0.
+fn smaller_inputs(input: &[u8]) -> Vec<Vec<u8>> {
+    let mut removed = stretches(input.len());
+    removed.sort_by_key(|(from, to)| from + input.len() - to);
+    let mut all: Vec<Vec<u8>> = removed
+        .into_iter()
+        .map(|(from, to)| [&input[..from], &input[to..]].concat())
+        .collect();
+    for (place, _) in input.iter().enumerate().filter(|(_, byte)| **byte != 0) {
+        all.push(input.to_vec());
+        all.last_mut().expect("just pushed")[place] = 0;
+    }
+    all
 }
 
 /// The cases one step below a case.

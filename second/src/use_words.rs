@@ -1,6 +1,8 @@
 //! The command line: what is asked for, and the words of the help.
 
+use crate::compare_blocks::DEFAULT_BLOCKS;
 use crate::compare_logs::DEFAULT_CASES;
+use crate::compare_makeblock::DEFAULT_REQUESTS;
 use std::ffi::OsString;
 
 pub const HELP: &str = "\
@@ -13,10 +15,21 @@ compares the proved programs' listings (docs/FORMATS.md) with its own.
       said otherwise), besides the fixed ones. A mismatch is shrunk.
   second compare entries [--seed N] -- COMMAND [ARGS..]
       Whole logs in the format of entries, each in a run of COMMAND of its own.
+  second compare blocks [--seed N] [--cases N] -- COMMAND [ARGS..]
+      Good and broken captures in the format of blocks, each in a run of
+      COMMAND of its own, two runs at a time. N random ones are made (2000
+      unless said otherwise), besides the fixed and the long ones.
+  second compare makeblock [--seed N] [--cases N] -- COMMAND [ARGS..]
+      Events to write in the format of makeblock, run likewise. N random ones
+      are made (1200 unless said otherwise), besides the fixed ones.
   second answer logs
       Reads cases on standard input, prints the listing of logcases.
   second answer entries
       Reads a log on standard input, prints the listing of entries.
+  second answer blocks
+      Reads a capture on standard input, prints the listing of blocks.
+  second answer makeblock
+      Reads an event to write on standard input, prints the listing of makeblock.
   second --help
       Prints this.
 
@@ -32,6 +45,20 @@ pub const DEFAULT_SEED: u64 = 260_560_830;
 pub enum Subject {
     Logs,
     Entries,
+    Blocks,
+    Makeblock,
+}
+
+impl Subject {
+    /// The number of random cases unless another is asked for; none where it cannot be.
+    fn default_cases(self) -> Option<usize> {
+        match self {
+            Subject::Logs => Some(DEFAULT_CASES),
+            Subject::Entries => None,
+            Subject::Blocks => Some(DEFAULT_BLOCKS),
+            Subject::Makeblock => Some(DEFAULT_REQUESTS),
+        }
+    }
 }
 
 /// What is asked for.
@@ -70,14 +97,20 @@ fn parse_subject(word: Option<&str>) -> Result<Subject, String> {
     match word {
         Some("logs") => Ok(Subject::Logs),
         Some("entries") => Ok(Subject::Entries),
-        Some(other) => Err(format!("'{}' is neither logs nor entries", other)),
-        None => Err("logs or entries must be named".to_string()),
+        Some("blocks") => Ok(Subject::Blocks),
+        Some("makeblock") => Ok(Subject::Makeblock),
+        Some(other) => Err(format!(
+            "'{}' is none of logs, entries, blocks and makeblock",
+            other
+        )),
+        None => Err("logs, entries, blocks or makeblock must be named".to_string()),
     }
 }
 
 /// Reads the options of a comparison and its COMMAND.
 fn parse_compare(subject: Subject, words: &[OsString]) -> Result<Use, String> {
-    let (mut seed, mut cases) = (DEFAULT_SEED, DEFAULT_CASES);
+    let default_cases = subject.default_cases();
+    let (mut seed, mut cases) = (DEFAULT_SEED, default_cases.unwrap_or(0));
     let mut rest = words.iter();
     while let Some(word) = rest.next() {
         match word.to_string_lossy().as_ref() {
@@ -94,7 +127,7 @@ fn parse_compare(subject: Subject, words: &[OsString]) -> Result<Use, String> {
                 });
             }
             "--seed" => seed = parse_number("--seed", rest.next())?,
-            "--cases" if subject == Subject::Logs => {
+            "--cases" if default_cases.is_some() => {
                 cases = parse_number("--cases", rest.next())?;
             }
             other => return Err(format!("'{}' is not known here", other)),

@@ -42,6 +42,14 @@ fn it_agrees_with_itself() {
     let (code, words) = compare(&["entries", "--seed", "9", "--", SECOND, "answer", "entries"]);
     assert_eq!(code, Some(0), "{}", words);
     assert!(words.starts_with("seed 9\n"), "{}", words);
+    for (subject, told) in [
+        ("blocks", "random inputs agree: 2000 runs"),
+        ("makeblock", "random inputs agree: 1200 runs"),
+    ] {
+        let (code, words) = compare(&[subject, "--", SECOND, "answer", subject]);
+        assert_eq!(code, Some(0), "{}", words);
+        assert!(words.contains(told), "{}", words);
+    }
 }
 
 #[test]
@@ -51,6 +59,14 @@ fn it_answers() {
     let listing = format!("{}0 0 0 4 0 3\n3 2 0 0 0 4\n4 4 0 0 0 5\n", title);
     assert_eq!(String::from_utf8(output.stdout), Ok(listing));
     assert_eq!(output.status.code(), Some(0));
+    let output = second(&["answer", "blocks"], &[0, 0, 1, 7, 0, 0, 0, 9]);
+    let listing = format!("\n0 0 1 0 0 0 7{}\nfault 30 7\n", " 0".repeat(31));
+    let given = String::from_utf8(output.stdout).expect("text");
+    assert!(given.ends_with(&listing), "{}", given);
+    let mut written = vec![0, 0, 1, 2, 0, 0, 0, 7];
+    written.extend([0; 31]);
+    let output = second(&["answer", "makeblock"], &written);
+    assert_eq!(output.stdout, b"0 1\n7 2\n");
 }
 
 #[test]
@@ -71,9 +87,30 @@ fn a_command_that_fails_is_said_to_fail() {
 }
 
 #[test]
+fn an_event_listing_that_fails_is_said_to_fail() {
+    for (command, told) in [
+        (&["/no/such/program"][..], "cannot be started"),
+        (&["false"], "false died (exit status: 1)"),
+        (&["cat"], "MISMATCH in "),
+        (&[SECOND, "--help"], "MISMATCH in "),
+    ] {
+        for subject in ["blocks", "makeblock"] {
+            let (code, words) = compare(&[&[subject, "--"], command].concat());
+            assert_eq!(code, Some(1), "{}", words);
+            assert!(words.contains(told), "{}", words);
+        }
+    }
+}
+
+#[test]
 fn a_listing_cut_short_is_a_mismatch() {
-    for subject in ["logs", "entries"] {
-        let script = format!("'{}' answer {} | head -c 600", SECOND, subject);
+    for (subject, bytes) in [
+        ("logs", 600),
+        ("entries", 600),
+        ("blocks", 600),
+        ("makeblock", 6),
+    ] {
+        let script = format!("'{}' answer {} | head -c {}", SECOND, subject, bytes);
         let (code, words) = compare(&[subject, "--", "sh", "-c", &script]);
         assert_eq!(code, Some(1), "{}", words);
         assert!(words.contains("MISMATCH"), "{}", words);
@@ -82,7 +119,7 @@ fn a_listing_cut_short_is_a_mismatch() {
 
 #[test]
 fn bad_use_is_told() {
-    let bad: [&[&str]; 8] = [
+    let bad: [&[&str]; 11] = [
         &[],
         &["compare"],
         &["answer", "notes"],
@@ -91,6 +128,9 @@ fn bad_use_is_told() {
         &["compare", "logs", "--"],
         &["compare", "logs", "--seed", "x", "--", "cat"],
         &["compare", "entries", "--cases", "5", "--", "cat"],
+        &["answer", "blocks", "more"],
+        &["compare", "blocks", "--"],
+        &["compare", "makeblock", "--cases", "x", "--", "cat"],
     ];
     for words in bad {
         let output = second(words, b"");

@@ -1,0 +1,100 @@
+-- What an answer without refusal says of the block read, and of the event written. Assumes nothing.
+use mathlib.Core.Path.{_≡_, refl, sym, ap, _∙_}
+use mathlib.Core.Bool.{Bool, true, false, cond, _&&_, false≢true}
+use mathlib.Core.List.{List}
+use Prim.Native.Nat.{ℕ, _/_, _%_, _^_, _≤_}
+use borrow.Author.Tests.{eqb-true, eqb-false, ltb-false, leb-true, ne-eqb}
+use lib.Count.{ones}
+use lib.Dec.{eqb, ltb, leb}
+use lib.ListN.{length, getD, drop}
+use Rattle.layout.specs.declared.Answer.{Answer}
+use Rattle.layout.specs.declared.Answer.the-variants.{NoWords, WordsEnd, NotAHeader, CountAbove32, AnotherCount, Bits25And24}
+use Rattle.layout.specs.declared.Event.{Event}
+use Rattle.layout.specs.declared.Settings.{Settings}
+use Rattle.layout.specs.Length.{eventLength, headerLength, enabledChannels}
+use Rattle.layout.specs.Numbers.{done, isDone}
+use Rattle.layout.specs.Reader.{headerAnswer, dataAnswer, bodyAnswer, readAnswer}
+use Rattle.layout.specs.Writer.{fieldsFit, fieldsZero, countsFit, writable}
+
+-- of a test with a refusal on one side, the other side was taken
+pub if-not : (t : Bool) (x y : Answer) → isDone x ≡ false → isDone (cond t x y) ≡ true → (t ≡ false) × (isDone y ≡ true)
+if-not true x y r d = absurd (false≢true (sym r ∙ d))
+if-not false x y r d = (refl, d)
+
+pub if-so : (t : Bool) (x y : Answer) → isDone y ≡ false → isDone (cond t x y) ≡ true → (t ≡ true) × (isDone x ≡ true)
+if-so true x y r d = (refl, d)
+if-so false x y r d = absurd (false≢true (sym r ∙ d))
+
+-- ---- the reader
+-- a header that is right: bit 26 one, bits 25 and 24 zero, the number of enabled channels
+abbrev pub GoodHeader : Settings → ℕ → Type 0
+GoodHeader st h = (h / 2 ^ 26 % 2 ≡ 1) × (h / 2 ^ 24 % 4 ≡ 0) × (h / 2 ^ 18 % 64 ≡ ones (st .enable))
+
+header-done : (st : Settings) (h : ℕ) (rest : Answer) → isDone (headerAnswer st h rest) ≡ true → GoodHeader st h × (isDone rest ≡ true)
+header-done st h rest d =
+    let n : ℕ = h / 2 ^ 18 % 64 in
+    let a = if-so (eqb (h / 2 ^ 26 % 2) 1) _ NotAHeader refl d in
+    let b = if-so (eqb (h / 2 ^ 24 % 4) 0) _ Bits25And24 refl (a .1) in
+    let e = if-so (leb n 32) _ CountAbove32 refl (b .1) in
+    let f = if-so (eqb n (ones (st .enable))) rest AnotherCount refl (e .1) in
+    ((eqb-true _ _ (a .0), eqb-true _ _ (b .0), eqb-true _ _ (f .0)), f .1)
+
+-- the words reach to the event's end, and in the short format the data are right
+pub body-done : (st : Settings) (ws : List ℕ) → isDone (bodyAnswer st ws) ≡ true
+    → (eventLength st ≤ length ws) × (isDone (cond (st .short) (dataAnswer (enabledChannels (st .enable)) (drop (headerLength st) ws) (done st)) (done st)) ≡ true)
+unfolding bodyAnswer
+body-done st ws d = let a = if-not (ltb (length ws) (eventLength st)) WordsEnd _ refl d in (ltb-false _ _ (a .0), a .1)
+
+-- the event has words, its header, where it has one, is right, and so is what is behind it
+pub read-done : (st : Settings) (ws : List ℕ) → isDone (readAnswer st ws) ≡ true
+    → (eventLength st ≡ 0 → ⊥) × (st .header ≡ true → GoodHeader st (getD ws 0 0)) × (isDone (bodyAnswer st ws) ≡ true)
+unfolding readAnswer
+read-done st ws d =
+    let a = if-not (eqb (eventLength st) 0) NoWords _ refl d in
+    let b = if-not (eqb (length ws) 0) WordsEnd _ refl (a .1) in
+    let e = go (st .header) (b .1) in
+    (eqb-false _ _ (a .0), e .0, e .1)
+  where
+    go : (t : Bool) → isDone (cond t (headerAnswer st (getD ws 0 0) (bodyAnswer st ws)) (bodyAnswer st ws)) ≡ true
+        → (t ≡ true → GoodHeader st (getD ws 0 0)) × (isDone (bodyAnswer st ws) ≡ true)
+    go true d = let g = header-done st (getD ws 0 0) (bodyAnswer st ws) d in ((λ t. g .0), g .1)
+    go false d = ((λ t. absurd (false≢true t)), d)
+
+-- with words to read, the header decides first, where there is one
+module _ (st : Settings) (ws : List ℕ) (s : eventLength st ≡ 0 → ⊥) (l : length ws ≡ 0 → ⊥) where
+  pub read-headed : st .header ≡ true → readAnswer st ws ≡ headerAnswer st (getD ws 0 0) (bodyAnswer st ws)
+  unfolding readAnswer
+  read-headed h = rw (ne-eqb _ _ s, ne-eqb _ _ l) (ap (λ (t : Bool). cond t (headerAnswer st (getD ws 0 0) (bodyAnswer st ws)) (bodyAnswer st ws)) h)
+
+  pub read-bare : st .header ≡ false → readAnswer st ws ≡ bodyAnswer st ws
+  unfolding readAnswer
+  read-bare h = rw (ne-eqb _ _ s, ne-eqb _ _ l) (ap (λ (t : Bool). cond t (headerAnswer st (getD ws 0 0) (bodyAnswer st ws)) (bodyAnswer st ws)) h)
+
+pub done-fits : (st : Settings) (ws : List ℕ) → isDone (readAnswer st ws) ≡ true → eventLength st ≤ length ws
+done-fits st ws d = body-done st ws (read-done st ws d .2) .0
+
+-- ---- the writer
+both : (s t : Bool) → s && t ≡ true → (s ≡ true) × (t ≡ true)
+both true t e = (refl, e)
+both false t e = absurd (false≢true e)
+
+pub fields-fit : (ev : Event) → fieldsFit ev ≡ true → (ev .geo ≤ 31) × (ev .source ≤ 3) × (ev .trigger ≤ 65535)
+fields-fit ev e =
+    let a = both (leb (ev .geo) 31 && leb (ev .source) 3) _ e in
+    let b = both (leb (ev .geo) 31) _ (a .0) in
+    (leb-true _ _ (b .0), leb-true _ _ (b .1), leb-true _ _ (a .1))
+
+pub fields-zero : (ev : Event) → fieldsZero ev ≡ true → (ev .geo ≡ 0) × (ev .source ≡ 0) × (ev .trigger ≡ 0)
+fields-zero ev e =
+    let a = both (eqb (ev .geo) 0 && eqb (ev .source) 0) _ e in
+    let b = both (eqb (ev .geo) 0) _ (a .0) in
+    (eqb-true _ _ (b .0), eqb-true _ _ (b .1), eqb-true _ _ (a .1))
+
+-- an event that can be written: its fields fit, without header they are 0, and its counts fit
+pub writable-parts : (st : Settings) (ev : Event) → writable st ev ≡ true
+    → (fieldsFit ev ≡ true) × (cond (st .header) true (fieldsZero ev) ≡ true) × (countsFit (st .short) (st .enable) (ev .counts) ≡ true)
+unfolding writable
+writable-parts st ev e =
+    let a = both (fieldsFit ev && cond (st .header) true (fieldsZero ev)) _ e in
+    let b = both (fieldsFit ev) _ (a .0) in
+    (b .0, b .1, a .1)

@@ -1,0 +1,5 @@
+pub mod Length
+pub mod Numbers
+pub mod Layout
+pub mod Writer
+pub mod Reader
