@@ -3,18 +3,19 @@ use mathlib.Core.Path.{_≡_, refl, sym, ap, _∙_}
 use mathlib.Core.Bool.{Bool, true, false, cond, _&&_, false≢true}
 use mathlib.Core.List.{List}
 use Prim.Native.Nat.{ℕ, _/_, _%_, _^_, _≤_}
-use borrow.Author.Tests.{eqb-true, eqb-false, ltb-false, leb-true, ne-eqb}
+use native.Mathlib.Omega.{arith}
+use borrow.Author.Tests.{eqb-true, eqb-false, ltb-false, leb-true, eq-eqb, ne-eqb, le-leb, le-ltb}
 use lib.Count.{ones}
 use lib.Dec.{eqb, ltb, leb}
 use lib.ListN.{length, getD, drop}
 use Rattle.layout.specs.declared.Answer.{Answer}
-use Rattle.layout.specs.declared.Answer.the-variants.{NoWords, WordsEnd, NotAHeader, CountAbove32, AnotherCount, Bits25And24}
+use Rattle.layout.specs.declared.Answer.the-variants.{NoWords, WordsEnd, NotAHeader, CountAbove32, AnotherCount, Bits25And24, TooFewLent, NotAnEvent}
 use Rattle.layout.specs.declared.Event.{Event}
 use Rattle.layout.specs.declared.Settings.{Settings}
 use Rattle.layout.specs.Length.{eventLength, headerLength, enabledChannels}
 use Rattle.layout.specs.Numbers.{done, isDone}
 use Rattle.layout.specs.Reader.{headerAnswer, dataAnswer, bodyAnswer, readAnswer}
-use Rattle.layout.specs.Writer.{fieldsFit, fieldsZero, countsFit, writable}
+use Rattle.layout.specs.Writer.{fieldsFit, fieldsZero, countsFit, writable, writeAnswer}
 
 -- of a test with a refusal on one side, the other side was taken
 pub if-not : (t : Bool) (x y : Answer) → isDone x ≡ false → isDone (cond t x y) ≡ true → (t ≡ false) × (isDone y ≡ true)
@@ -60,6 +61,23 @@ read-done st ws d =
     go true d = let g = header-done st (getD ws 0 0) (bodyAnswer st ws) d in ((λ t. g .0), g .1)
     go false d = ((λ t. absurd (false≢true t)), d)
 
+-- and the other way round: with nothing wrong, the reader is done
+pub reads-done : (st : Settings) (ws : List ℕ) → ones (st .enable) ≤ 32 → (eventLength st ≡ 0 → ⊥) → eventLength st ≤ length ws
+    → (st .header ≡ true → GoodHeader st (getD ws 0 0))
+    → (st .short ≡ true → dataAnswer (enabledChannels (st .enable)) (drop (headerLength st) ws) (done st) ≡ done st)
+    → readAnswer st ws ≡ done st
+unfolding readAnswer bodyAnswer
+reads-done st ws o s l g e = rw (ne-eqb _ _ s, ne-eqb (length ws) 0 (λ z. s (omega arith)), le-ltb (length ws) (eventLength st) l) (headed (st .header) g (shorter (st .short) e))
+  where
+    shorter : (t : Bool) → (t ≡ true → dataAnswer (enabledChannels (st .enable)) (drop (headerLength st) ws) (done st) ≡ done st)
+        → cond t (dataAnswer (enabledChannels (st .enable)) (drop (headerLength st) ws) (done st)) (done st) ≡ done st
+    shorter true f = f refl
+    shorter false f = refl
+
+    headed : (t : Bool) {a : Answer} → (t ≡ true → GoodHeader st (getD ws 0 0)) → a ≡ done st → cond t (headerAnswer st (getD ws 0 0) a) a ≡ done st
+    headed true f q = let h = f refl in rw (eq-eqb _ _ (h .0), eq-eqb _ _ (h .1), le-leb (getD ws 0 0 / 2 ^ 18 % 64) 32 (omega (arith, h .2)), eq-eqb _ _ (h .2)) q
+    headed false f q = q
+
 -- with words to read, the header decides first, where there is one
 module _ (st : Settings) (ws : List ℕ) (s : eventLength st ≡ 0 → ⊥) (l : length ws ≡ 0 → ⊥) where
   pub read-headed : st .header ≡ true → readAnswer st ws ≡ headerAnswer st (getD ws 0 0) (bodyAnswer st ws)
@@ -74,7 +92,7 @@ pub done-fits : (st : Settings) (ws : List ℕ) → isDone (readAnswer st ws) �
 done-fits st ws d = body-done st ws (read-done st ws d .2) .0
 
 -- ---- the writer
-both : (s t : Bool) → s && t ≡ true → (s ≡ true) × (t ≡ true)
+pub both : (s t : Bool) → s && t ≡ true → (s ≡ true) × (t ≡ true)
 both true t e = (refl, e)
 both false t e = absurd (false≢true e)
 
@@ -98,3 +116,13 @@ writable-parts st ev e =
     let a = both (fieldsFit ev && cond (st .header) true (fieldsZero ev)) _ e in
     let b = both (fieldsFit ev) _ (a .0) in
     (b .0, b .1, a .1)
+
+-- what an answer without refusal says: the event has words, can be written, and has room
+pub write-done : (st : Settings) (ev : Event) (lent : List ℕ) → isDone (writeAnswer st ev lent) ≡ true
+    → (eventLength st ≡ 0 → ⊥) × (writable st ev ≡ true) × (eventLength st ≤ length lent)
+unfolding writeAnswer
+write-done st ev lent d =
+    let a = if-not (eqb (eventLength st) 0) NoWords _ refl d in
+    let b = if-so (writable st ev) _ NotAnEvent refl (a .1) in
+    let e = if-not (ltb (length lent) (eventLength st)) TooFewLent _ refl (b .1) in
+    (eqb-false _ _ (a .0), b .0, ltb-false _ _ (e .0))

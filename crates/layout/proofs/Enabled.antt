@@ -1,11 +1,11 @@
 -- Laws of the enabled channels: how many they are, and the next of them, by the zeros below the mask's lowest one. Assumes nothing.
-use mathlib.Core.Path.{_≡_, refl, sym, ap, ap₂, _∙_}
+use mathlib.Core.Path.{_≡_, refl, sym, ap, _∙_}
 use mathlib.Core.List.{List, [], _∷_}
 use Prim.Native.Nat.{ℕ, zero, suc, _+_, _-_, _*_, _/_, _%_, _^_, _≤_, _<_}
 use native.Mathlib.Nat.{add-suc, suc-add, add-zero, pow-suc, zero-add, one-mul}
 use native.Mathlib.Omega.{arith}
 use lib.Arith.{lt-one}
-use lib.Count.{ones, ones-step, ones-le, trailingZeros, under}
+use lib.Count.{ones, ones-step, trailingZeros, under}
 use lib.ListN.{length}
 use lib.Pow.{pow-pos, shl-exact}
 use Rattle.layout.specs.Length.{put, enabledFrom, enabledChannels}

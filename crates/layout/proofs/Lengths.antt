@@ -1,6 +1,6 @@
 -- The event length as the code has it, and a quotient with a rest, which is below what was divided. Assumes nothing.
 use mathlib.Core.Path.{_≡_, sym, ap}
-use Prim.Native.Nat.{ℕ, zero, suc, _+_, _*_, _/_, _%_, _<_}
+use Prim.Native.Nat.{ℕ, zero, suc, _/_, _%_, _<_}
 use native.Mathlib.Nat.{div-add-mod', mul-suc}
 use native.Mathlib.Omega.{arith}
 use Rattle.layout.specs.declared.Settings.{Settings}

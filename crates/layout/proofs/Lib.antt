@@ -1,6 +1,12 @@
 pub mod Answers
 pub mod Data
 pub mod Enabled
+pub mod Halves
 pub mod Lengths
+pub mod NoFurther
+pub mod Permitted
+pub mod ReadAgain
+pub mod Refusals
 pub mod Turns
 pub mod Written
+pub mod WrittenAgain

@@ -1,11 +1,11 @@
 -- One turn of a loop over the enabled channels: one of them, one word, and what is left of both. Assumes nothing.
-use mathlib.Core.Path.{_≡_, refl, sym, ap, _∙_, subst}
+use mathlib.Core.Path.{_≡_}
 use mathlib.Core.Bool.{Bool}
 use mathlib.Core.List.{List, [], _∷_}
 use Prim.Native.Nat.{ℕ, _+_, _^_, _≤_, _<_}
 use native.Mathlib.Numerals.{add-one}
 use native.Mathlib.Omega.{arith}
-use lib.ListN.{length, getD, set, drop, length-set, length-map}
+use lib.ListN.{length, getD, set, drop, length-set}
 use lib.Seq.{drop-cons, sets}
 use Rattle.layout.specs.declared.Settings.{Settings}
 use Rattle.layout.specs.Layout.{datumOf, dataOf}

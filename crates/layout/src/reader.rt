@@ -4,7 +4,7 @@ ghost use Prim.Native.Nat.{_+_, _<_, _≤_};
 ghost use lib.ListN.{length, drop, replicate};
 ghost use Rattle.layout.specs.Length.{eventLength, headerLength, enabledChannels};
 ghost use Rattle.layout.specs.Numbers.{done};
-ghost use Rattle.layout.specs.Reader.{headerAnswer, bodyAnswer, dataAnswer, readAnswer, countIn, countsIn, noEvent, eventIn, readOf};
+ghost use Rattle.layout.specs.Reader.{headerAnswer, bodyAnswer, dataAnswer, readAnswer, countIn, countsIn, eventIn, readOf};
 use crate::Answer;
 use crate::Event;
 use crate::Reading;
@@ -98,11 +98,12 @@ fn data_answered(settings: Settings, words: &[u32]) -> Answer
     let mut left = settings.enable;
     while left != 0 {
         let next = next_channel(left);
+        let channel = next.channel;
         let datum = words[at];
         if (datum >> 26) % 2 != 0 {
             return Answer::DatumWithBit26;
         }
-        if datum >> 27 != next.channel {
+        if datum >> 27 != channel {
             return Answer::AnotherChannel;
         }
         at += 1;
@@ -144,8 +145,10 @@ fn decoded_counts(settings: Settings, words: &[u32]) -> [u32; 32]
     let mut left = settings.enable;
     while left != 0 {
         let next = next_channel(left);
-        let k = next.channel as usize;
-        counts[k] = count_in(settings.short, words[at]);
+        let channel = next.channel;
+        let datum = words[at];
+        let k = channel as usize;
+        counts[k] = count_in(settings.short, datum);
         at += 1;
         left = next.left;
     }

@@ -1,7 +1,7 @@
 // The block writer.
 ghost use mathlib.Core.Path.{_≡_};
 ghost use Prim.Native.Nat.{_+_, _<_, _≤_};
-ghost use lib.ListN.{length, getD};
+ghost use lib.ListN.{length};
 ghost use Rattle.layout.specs.Length.{eventLength, enabledChannels};
 ghost use Rattle.layout.specs.Layout.{headerOf, datumOf, dataOf, eventWords};
 ghost use Rattle.layout.specs.Writer.{fieldsFit, fieldsZero, zeroIfDisabled, countFits, countsFit, writable, writeAnswer, writeWords};

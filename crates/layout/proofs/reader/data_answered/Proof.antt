@@ -44,23 +44,23 @@ returns c =
 
 returns-2 : tie.Need-returns-2 Inv-loop μ-loop
 returns-2 c =
-    let l = c .before .before .before .before .before .before .loop in
-    let a = c .before .before .before .before .before .before .before .before .before .args in
-    let n = c .before .before .before .before .next-channel in
-    data-channel (done (a .settings)) (l .inv) (n .result .channel) (n .result .left) (n .ensures .0) (c .before .before .if1 .left) (c .if2 .taken)
+    let l = c .before .before .before .before .before .loop in
+    let a = c .before .before .before .before .before .before .before .before .args in
+    let n = c .before .before .before .next-channel in
+    data-channel (done (a .settings)) (l .inv) (n .result .channel) (n .result .left) (n .ensures .0) (c .before .if1 .left) (c .if2 .taken)
 
 add-at : tie.Need-add-at Inv-loop μ-loop
-add-at c = let n = c .before .before .before .before .next-channel in omega (arith, left-room (c .before .before .before .before .before .before .loop .inv) (n .result .channel) (n .result .left) (n .ensures .0))
+add-at c = let n = c .before .before .before .next-channel in omega (arith, left-room (c .before .before .before .before .before .loop .inv) (n .result .channel) (n .result .left) (n .ensures .0))
 
 loop-less : tie.Need-loop-less Inv-loop μ-loop
 loop-less c = search needs
 
 loop-again : tie.Need-loop-again Inv-loop μ-loop
 loop-again c =
-    let l = c .before .before .before .before .before .before .loop in
-    let a = c .before .before .before .before .before .before .before .before .before .args in
-    let n = c .before .before .before .before .next-channel in
-    data-next (done (a .settings)) (l .inv) (n .result .channel) (n .result .left) (n .ensures .0) (c .before .before .if1 .left) (c .if2 .left)
+    let l = c .before .before .before .before .before .loop in
+    let a = c .before .before .before .before .before .before .before .before .args in
+    let n = c .before .before .before .next-channel in
+    data-next (done (a .settings)) (l .inv) (n .result .channel) (n .result .left) (n .ensures .0) (c .before .if1 .left) (c .if2 .left)
 
 event-length-requires : tie.Need-event-length-requires Inv-loop μ-loop
 event-length-requires c κs = search needs

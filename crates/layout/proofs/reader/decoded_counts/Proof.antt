@@ -26,14 +26,14 @@ loop-holds c =
 next-channel-requires : tie.Need-next-channel-requires Inv-loop μ-loop
 next-channel-requires c κs = search needs
 
+mul-datum : tie.Need-mul-datum Inv-loop μ-loop
+mul-datum c = let n = c .next-channel in omega (arith, left-room (c .before .before .loop .inv) (n .result .channel) (n .result .left) (n .ensures .0))
+
+shared-slice-read-datum : tie.Need-shared-slice-read-datum Inv-loop μ-loop
+shared-slice-read-datum c = let n = c .before .next-channel in left-room (c .before .before .before .loop .inv) (n .result .channel) (n .result .left) (n .ensures .0)
+
 cast-k : tie.Need-cast-k Inv-loop μ-loop
 cast-k c = search needs
-
-mul-count-in : tie.Need-mul-count-in Inv-loop μ-loop
-mul-count-in c = let n = c .before .next-channel in omega (arith, left-room (c .before .before .before .loop .inv) (n .result .channel) (n .result .left) (n .ensures .0))
-
-shared-slice-read-count-in : tie.Need-shared-slice-read-count-in Inv-loop μ-loop
-shared-slice-read-count-in c = let n = c .before .before .next-channel in left-room (c .before .before .before .before .loop .inv) (n .result .channel) (n .result .left) (n .ensures .0)
 
 count-in-requires : tie.Need-count-in-requires Inv-loop μ-loop
 count-in-requires c κs = search needs
@@ -45,16 +45,16 @@ array-write-counts : tie.Need-array-write-counts Inv-loop μ-loop
 array-write-counts c = search needs
 
 add-at : tie.Need-add-at Inv-loop μ-loop
-add-at c = let n = c .before .before .before .next-channel in omega (arith, left-room (c .before .before .before .before .before .loop .inv) (n .result .channel) (n .result .left) (n .ensures .0))
+add-at c = let n = c .before .before .next-channel in omega (arith, left-room (c .before .before .before .before .loop .inv) (n .result .channel) (n .result .left) (n .ensures .0))
 
 loop-less : tie.Need-loop-less Inv-loop μ-loop
 loop-less c = search needs
 
 loop-again : tie.Need-loop-again Inv-loop μ-loop
 loop-again c =
-    let l = c .before .before .before .before .before .loop in
-    let a = c .before .before .before .before .before .before .before .before .args in
-    let n = c .before .before .before .next-channel in
+    let l = c .before .before .before .before .loop in
+    let a = c .before .before .before .before .before .before .before .args in
+    let n = c .before .before .next-channel in
     rw (c .count-in .ensures) (counts-next (a .settings .short) (l .counts) (l .inv) (n .result .channel) (n .result .left) (n .ensures .0))
 
 returns : tie.Need-returns Inv-loop μ-loop
@@ -69,9 +69,9 @@ decoded-counts-spec =
     data-place-requires
     loop-holds
     next-channel-requires
+    mul-datum
+    shared-slice-read-datum
     cast-k
-    mul-count-in
-    shared-slice-read-count-in
     count-in-requires
     mul-counts
     array-write-counts
