@@ -7,8 +7,8 @@ use crate::Numeral;
 use crate::Reading;
 use crate::numbers::read_number;
 
-// An argument of 0 to `most`.
-fn argument(log: &[u8], at: usize, most: u32) -> Numeral
+// An argument of 0 to `most`, at a place.
+pub fn read_argument(log: &[u8], at: usize, most: u32) -> Numeral
     ensures { λ r. ⌜ r ≡ argumentAt (now (log .entry)) at most ⌝ }
 {
     match read_number(log, at) {
@@ -52,7 +52,7 @@ fn data_limit(width: u32) -> u32
 fn pulse(log: &[u8], at: usize, p: usize) -> Reading
     ensures { λ r. ⌜ r ≡ pulseAt (now (log .entry)) at p ⌝ }
 {
-    match argument(log, p, 31) {
+    match read_argument(log, p, 31) {
         Numeral::Refused(fault, _) => Reading::Refused(fault, at),
         Numeral::Value(channel, q) => match read_number(log, q) {
             Numeral::Refused(fault, _) => Reading::Refused(fault, at),
@@ -65,7 +65,7 @@ fn pulse(log: &[u8], at: usize, p: usize) -> Reading
 fn veto(log: &[u8], at: usize, p: usize) -> Reading
     ensures { λ r. ⌜ r ≡ vetoAt (now (log .entry)) at p ⌝ }
 {
-    match argument(log, p, 1) {
+    match read_argument(log, p, 1) {
         Numeral::Refused(fault, _) => Reading::Refused(fault, at),
         Numeral::Value(line, next) => Reading::Entry(Entry::Veto(line == 1), next),
     }
@@ -75,7 +75,7 @@ fn veto(log: &[u8], at: usize, p: usize) -> Reading
 fn read(log: &[u8], at: usize, p: usize) -> Reading
     ensures { λ r. ⌜ r ≡ readAt (now (log .entry)) at p ⌝ }
 {
-    match argument(log, p, 65535) {
+    match read_argument(log, p, 65535) {
         Numeral::Refused(fault, _) => Reading::Refused(fault, at),
         Numeral::Value(offset, q) => match width(log, q) {
             Numeral::Refused(fault, _) => Reading::Refused(fault, at),
@@ -88,11 +88,11 @@ fn read(log: &[u8], at: usize, p: usize) -> Reading
 fn write(log: &[u8], at: usize, p: usize) -> Reading
     ensures { λ r. ⌜ r ≡ writeAt (now (log .entry)) at p ⌝ }
 {
-    match argument(log, p, 65535) {
+    match read_argument(log, p, 65535) {
         Numeral::Refused(fault, _) => Reading::Refused(fault, at),
         Numeral::Value(offset, q) => match width(log, q) {
             Numeral::Refused(fault, _) => Reading::Refused(fault, at),
-            Numeral::Value(bits, r) => match argument(log, r, data_limit(bits)) {
+            Numeral::Value(bits, r) => match read_argument(log, r, data_limit(bits)) {
                 Numeral::Refused(fault, _) => Reading::Refused(fault, at),
                 Numeral::Value(data, next) => {
                     Reading::Entry(Entry::Write(offset, bits, data), next)

@@ -6,6 +6,7 @@ ghost use Rattle.benchlog.specs.Fields.{fieldsOf, entryFields};
 mod entries;
 mod numbers;
 
+pub use entries::read_argument;
 pub use entries::read_entry;
 pub use numbers::read_number;
 

@@ -6,8 +6,8 @@ use benchlog::Fields;
 use benchlog::Numeral;
 use stdio::Listing;
 
-// What reading a number gives, as numbers: 0, the number and the place after it, or the refusal's
-// number, 0 and the place that was given.
+// A numeral as numbers: 0, its value and the place after it, or the refusal's number, 0 and the place
+// that was given.
 struct Number {
     answer: u32,
     value: u32,
@@ -22,9 +22,9 @@ struct Case {
     to: usize,
 }
 
-// The number at a place.
-fn number_at(log: &[u8], at: usize) -> Number {
-    match benchlog::read_number(log, at) {
+// The numbers of a numeral.
+fn numbered(numeral: Numeral) -> Number {
+    match numeral {
         Numeral::Value(value, after) => Number {
             answer: 0,
             value,
@@ -36,19 +36,6 @@ fn number_at(log: &[u8], at: usize) -> Number {
             after: place,
         },
     }
-}
-
-// A number of a head, of 0 to `most`.
-fn head_number(input: &[u8], at: usize, most: u32) -> Number {
-    let n = number_at(input, at);
-    if n.value > most {
-        return Number {
-            answer: benchlog::fault_number(Fault::OutOfRange),
-            value: 0,
-            after: at,
-        };
-    }
-    n
 }
 
 // A case that is refused.
@@ -67,11 +54,11 @@ fn refused(answer: u32) -> Case
 fn read_case(input: &[u8], at: usize) -> Case
     ensures { λ r. ⌜ (r .from ≤ r .to) × (r .to ≤ length (now (input .entry))) ⌝ }
 {
-    let start = head_number(input, at, 65535);
+    let start = numbered(benchlog::read_argument(input, at, 65535));
     if start.answer != 0 {
         return refused(start.answer);
     }
-    let bytes = head_number(input, start.after, 60000);
+    let bytes = numbered(benchlog::read_argument(input, start.after, 60000));
     if bytes.answer != 0 {
         return refused(bytes.answer);
     }
@@ -116,7 +103,7 @@ fn put_case(log: &[u8], start: usize, out: &mut [u8], at: usize) -> usize {
     let mut i = 0;
     while i <= log.len() && answer == 0 {
         let e = benchlog::numbers_of(benchlog::read_entry(log, place));
-        p = put_call(out, p, e, number_at(log, place));
+        p = put_call(out, p, e, numbered(benchlog::read_number(log, place)));
         answer = e.answer;
         place = e.place;
         i += 1;

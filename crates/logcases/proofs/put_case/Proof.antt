@@ -21,8 +21,11 @@ read-entry-requires c κs = search needs
 numbers-of-requires : tie.Need-numbers-of-requires Inv-loop μ-loop
 numbers-of-requires c κs = search needs
 
-number-at-requires : tie.Need-number-at-requires Inv-loop μ-loop
-number-at-requires c κs = search needs
+read-number-requires : tie.Need-read-number-requires Inv-loop μ-loop
+read-number-requires c κs = search needs
+
+numbered-requires : tie.Need-numbered-requires Inv-loop μ-loop
+numbered-requires c κs = search needs
 
 put-call-requires : tie.Need-put-call-requires Inv-loop μ-loop
 put-call-requires c κs = search needs
@@ -57,7 +60,8 @@ put-case-spec =
     loop-holds
     read-entry-requires
     numbers-of-requires
-    number-at-requires
+    read-number-requires
+    numbered-requires
     put-call-requires
     add-i
     loop-less

@@ -1,0 +1,32 @@
+-- A head of numbers; docs/FORMATS.md: "A number on standard input is a log number", and a head is refused for a fault "of its numbers" and for
+-- one outside its range, "each as soon as its number is read". Assumes nothing.
+use Prim.Native.Nat.{ℕ, suc}
+use mathlib.Core.List.{List, [], _∷_}
+use lib.ListN.{set, replicate}
+use Rattle.benchlog.specs.Entries.{argumentAt}
+use Rattle.benchlog.specs.Faults.{faultNumber}
+use Rattle.benchlog.specs.declared.Numeral.{Numeral}
+use Rattle.benchlog.specs.declared.Numeral.the-variants.{Value, Refused}
+use Rattle.head.specs.declared.Head.{Head}
+
+-- every number is read, and `after` is the place after the last
+abbrev pub doneHead : List ℕ → ℕ → Head
+doneHead values after = record { answer = 0; values = values; after = after }
+
+-- the fault's number, and 0 for all else
+abbrev pub refusedHead : ℕ → Head
+refusedHead answer = record { answer = answer; values = replicate 40 0; after = 0 }
+
+-- a number that is read, and what follows it
+abbrev pub nextIn : Numeral → (ℕ → ℕ → Head) → Head
+nextIn (Refused fault place) rest = refusedHead (faultNumber fault)
+nextIn (Value v next) rest = rest v next
+
+-- the head from the place `at` on, where i numbers are read and these limits are left: "each as soon as its number is read"
+unfoldable pub headFrom : List ℕ → ℕ → List ℕ → ℕ → List ℕ → Head
+headFrom log at [] i values = doneHead values at
+headFrom log at (most ∷ rest) i values = nextIn (argumentAt log at most) (λ v next. headFrom log next rest (suc i) (set values i v))
+
+-- the head of an input, given the limit of each of its numbers
+unfoldable pub headOf : List ℕ → List ℕ → Head
+headOf log limits = headFrom log 0 limits 0 (replicate 40 0)

@@ -1,0 +1,149 @@
+// Writes one event of a V830 to lent words and shows them.
+ghost use mathlib.Core.Path.{_≡_};
+ghost use Prim.Native.Nat.{_≤_};
+ghost use lib.ListN.{length};
+ghost use Rattle.makeblock.specs.Asked.{limitsOf, eventOf, upFrom};
+use benchlog::Fault;
+use head::Head;
+use layout::Event;
+use layout::Settings;
+use stdio::Listing;
+
+// The limits of the head's numbers: header, short, enable, room, and 35 that have none.
+fn limits() -> [u32; 39]
+    ensures { λ r. ⌜ r ≡ limitsOf ⌝ }
+{
+    let mut limits = [4294967295u32; 39];
+    limits[0] = 1;
+    limits[1] = 1;
+    limits[3] = 64;
+    limits
+}
+
+// The head of the input, as far as it is read.
+fn head_of(buf: &[u8], l: Listing) -> Head
+    requires { ⌜ l .have ≤ length (now buf) ⌝ }
+{
+    let have = l.have;
+    let limits = limits();
+    head::read_head(&buf[..have], &limits)
+}
+
+// Reads on until the head is whole or refused, or the input has ended.
+fn begin(buf: &mut [u8]) -> Listing
+    ensures { λ r. ⌜ r .have ≤ length (now (buf .entry)) ⌝ }
+{
+    let mut l = stdio::begin(0);
+    let mut turns = u64::MAX;
+    while turns > 0 && !l.ended && head_of(buf, l).answer == benchlog::fault_number(Fault::Ends) {
+        l = stdio::read_on(buf, l);
+        turns -= 1;
+    }
+    l
+}
+
+// The event of a head.
+fn event_of(head: Head) -> Event
+    ensures { λ r. ⌜ r ≡ eventOf head ⌝ }
+{
+    let values = head.values;
+    let mut counts = [0u32; 32];
+    let mut k: usize = 0;
+    while k < 32 {
+        counts[k] = values[7 + k];
+        k += 1;
+    }
+    Event {
+        geo: values[4],
+        source: values[5],
+        trigger: values[6],
+        counts,
+    }
+}
+
+// How many words are lent: the head's fourth number, which its limit keeps within 64.
+fn room_of(head: Head) -> usize
+    ensures { λ r. ⌜ r ≤ 64 ⌝ }
+{
+    let room = head.values[3] as usize;
+    if room > 64 { 64 } else { room }
+}
+
+// The words before the call: 1, 2, 3 and so on.
+fn first_words() -> [u32; 64]
+    ensures { λ r. ⌜ r ≡ upFrom 64 1 ⌝ }
+{
+    let mut words = [0u32; 64];
+    let mut i: usize = 0;
+    while i < 64 {
+        words[i] = i as u32 + 1;
+        i += 1;
+    }
+    words
+}
+
+// A word as a number of a line.
+fn wide(word: u32) -> u64
+    ensures { λ r. ⌜ r ≡ word ⌝ }
+{
+    word as u64
+}
+
+// The words as numbers of a line.
+fn numbers_of(words: [u32; 64]) -> [u64; 64]
+    ensures { λ r. ⌜ r ≡ words ⌝ }
+{
+    let mut numbers = [0u64; 64];
+    let mut i: usize = 0;
+    while i < 64 {
+        numbers[i] = wide(words[i]);
+        i += 1;
+    }
+    numbers
+}
+
+// Puts the line of the first `room` words, which is empty where there are none.
+fn put_words(out: &mut [u8], at: usize, words: [u32; 64], room: usize) -> usize
+    requires { ⌜ room ≤ 64 ⌝ }
+{
+    if room == 0 {
+        return text::put_text(out, at, b"\n");
+    }
+    let numbers = numbers_of(words);
+    text::put_line(out, at, &numbers[..room])
+}
+
+// Puts the two lines of a head.
+fn put_block(out: &mut [u8], head: Head) -> usize {
+    let settings = Settings {
+        header: head.values[0] == 1,
+        short: head.values[1] == 1,
+        enable: head.values[2],
+    };
+    let room = room_of(head);
+    let mut words = first_words();
+    let answer = layout::write_event(settings, event_of(head), &mut words[..room]);
+    let reply = layout::numbered(answer);
+    let at = text::put_line(out, 0, &[reply.number as u64, reply.value as u64]);
+    put_words(out, at, words, room)
+}
+
+// What is written; a refused head is its fault line alone.
+fn run(buf: &mut [u8], out: &mut [u8]) {
+    let l = begin(buf);
+    let head = head_of(buf, l);
+    if head.answer == 0 {
+        let at = put_block(out, head);
+        stdio::flush(out, at);
+        return;
+    }
+    let at = text::put_fault(out, 0, head.answer, 0);
+    stdio::flush(out, at);
+}
+
+// The two buffers, of 64 KiB each.
+fn main() {
+    let mut buf = [0u8; 65536];
+    let mut out = [0u8; 65536];
+    run(&mut buf, &mut out);
+}
