@@ -15,27 +15,6 @@ use stdio::Listing;
 // The limits of the head's numbers: header, short, enable.
 const LIMITS: [u32; 3] = [1, 1, 4294967295];
 
-// The head of the input, as far as it is read.
-fn head_of(buf: &[u8], l: Listing) -> Head
-    requires { ⌜ l .have ≤ length (now buf) ⌝ }
-{
-    let have = l.have;
-    head::read_head(&buf[..have], &LIMITS)
-}
-
-// Reads on until the head is whole or refused, or the input has ended.
-fn begin(buf: &mut [u8]) -> Listing
-    ensures { λ r. ⌜ r .have ≤ length (now (buf .entry)) ⌝ }
-{
-    let mut l = stdio::begin(0);
-    let mut turns = u64::MAX;
-    while turns > 0 && !l.ended && head_of(buf, l).answer == benchlog::fault_number(Fault::Ends) {
-        l = stdio::read_on(buf, l);
-        turns -= 1;
-    }
-    l
-}
-
 // How many bytes of the input buffer are not used yet.
 fn unused(l: Listing) -> usize
     ensures { λ r. ⌜ r ≡ l .have - l .used ⌝ }
@@ -181,8 +160,9 @@ fn list_events(buf: &mut [u8], out: &mut [u8], first: Listing, head: Head)
 
 // The whole listing; a refused head is its fault line alone.
 fn run(buf: &mut [u8], out: &mut [u8]) {
-    let first = begin(buf);
-    let head = head_of(buf, first);
+    let first = head::begin(buf, &LIMITS);
+    let have = first.have;
+    let head = head::read_head(&buf[..have], &LIMITS);
     if head.answer == 0 {
         list_events(buf, out, first, head);
         return;

@@ -1,12 +1,17 @@
 -- A head of numbers; docs/FORMATS.md: "A number on standard input is a log number", and a head is refused for a fault "of its numbers" and for
 -- one outside its range, "each as soon as its number is read". Assumes nothing.
-use Prim.Native.Nat.{ℕ, suc}
+use Prim.Native.Nat.{ℕ, suc, _≤_}
+use mathlib.Core.Bool.{Bool, true, false}
 use mathlib.Core.List.{List, [], _∷_}
-use lib.ListN.{set, replicate}
+use mathlib.Core.Path.{_≡_}
+use lib.Dec.{eqb}
+use lib.ListN.{length, set, take, replicate}
 use Rattle.benchlog.specs.Entries.{argumentAt}
 use Rattle.benchlog.specs.Faults.{faultNumber}
+use Rattle.benchlog.specs.declared.Fault.the-variants.{Ends}
 use Rattle.benchlog.specs.declared.Numeral.{Numeral}
 use Rattle.benchlog.specs.declared.Numeral.the-variants.{Value, Refused}
+use Rattle.stdio.specs.declared.Listing.{Listing}
 use Rattle.head.specs.declared.Head.{Head}
 
 -- every number is read, and `after` is the place after the last
@@ -30,3 +35,15 @@ headFrom log at (most ∷ rest) i values = nextIn (argumentAt log at most) (λ v
 -- the head of an input, given the limit of each of its numbers
 unfoldable pub headOf : List ℕ → List ℕ → Head
 headOf log limits = headFrom log 0 limits 0 (replicate 40 0)
+
+-- whether an input ends inside its head: 30
+abbrev pub isCut : List ℕ → List ℕ → Bool
+isCut log limits = eqb (headOf log (take 40 limits) .answer) (faultNumber Ends)
+
+-- a listing that has begun: no byte of the input is used, nothing is put out, and the bytes that are had, at the front of the buffer, end inside the head
+-- only if the input does
+abbrev pub Begun : List ℕ → List ℕ → Listing → Type 0
+Begun buf limits l =
+    (l ≡ record { used = 0; have = l .have; ended = l .ended; base = 0; at = 0; more = true })
+    × (l .have ≤ length buf)
+    × (l .ended ≡ false → isCut (take (l .have) buf) limits ≡ false)

@@ -1,8 +1,11 @@
 // A head of numbers: log numbers one behind the other, each with a limit of its own. Knows no module.
 ghost use mathlib.Core.Path.{_≡_};
-ghost use lib.ListN.{take};
-ghost use Rattle.head.specs.Heads.{headOf, refusedHead};
+ghost use Prim.Native.Nat.{_≤_};
+ghost use lib.ListN.{length, take};
+ghost use Rattle.head.specs.Heads.{headOf, refusedHead, isCut, Begun};
+use benchlog::Fault;
 use benchlog::Numeral;
+use stdio::Listing;
 
 // A head: 0 or the fault's number, its values, and the place after its last number. A refused head
 // has the fault's number, and 0 for all else.
@@ -45,4 +48,25 @@ fn refused(answer: u32) -> Head
         values: [0; 40],
         after: 0,
     }
+}
+
+// Begins a listing: reads on until the head is whole or refused, or the input has ended.
+pub fn begin(buf: &mut [u8], limits: &[u32]) -> Listing
+    ensures { λ r. ⌜ Begun (now (buf .exit)) (now (limits .entry)) r ⌝ }
+{
+    let mut l = stdio::begin(0);
+    while !l.ended && is_cut(buf, l, limits) {
+        l = stdio::read_on(buf, l);
+    }
+    l
+}
+
+// Whether the bytes that are read end inside the head.
+fn is_cut(buf: &[u8], l: Listing, limits: &[u32]) -> bool
+    requires { ⌜ l .have ≤ length (now buf) ⌝ }
+    ensures { λ r. ⌜ r ≡ isCut (take (l .have) (now (buf .entry))) (now (limits .entry)) ⌝ }
+{
+    let have = l.have;
+    let head = read_head(&buf[..have], limits);
+    head.answer == benchlog::fault_number(Fault::Ends)
 }

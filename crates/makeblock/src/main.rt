@@ -1,13 +1,10 @@
 // Writes one event of a V830 to lent words and shows them.
 ghost use mathlib.Core.Path.{_≡_};
 ghost use Prim.Native.Nat.{_≤_};
-ghost use lib.ListN.{length};
 ghost use Rattle.makeblock.specs.Asked.{limitsOf, eventOf, upFrom};
-use benchlog::Fault;
 use head::Head;
 use layout::Event;
 use layout::Settings;
-use stdio::Listing;
 
 // The limits of the head's numbers: header, short, enable, room, and 35 that have none.
 fn limits() -> [u32; 39]
@@ -18,28 +15,6 @@ fn limits() -> [u32; 39]
     limits[1] = 1;
     limits[3] = 64;
     limits
-}
-
-// The head of the input, as far as it is read.
-fn head_of(buf: &[u8], l: Listing) -> Head
-    requires { ⌜ l .have ≤ length (now buf) ⌝ }
-{
-    let have = l.have;
-    let limits = limits();
-    head::read_head(&buf[..have], &limits)
-}
-
-// Reads on until the head is whole or refused, or the input has ended.
-fn begin(buf: &mut [u8]) -> Listing
-    ensures { λ r. ⌜ r .have ≤ length (now (buf .entry)) ⌝ }
-{
-    let mut l = stdio::begin(0);
-    let mut turns = u64::MAX;
-    while turns > 0 && !l.ended && head_of(buf, l).answer == benchlog::fault_number(Fault::Ends) {
-        l = stdio::read_on(buf, l);
-        turns -= 1;
-    }
-    l
 }
 
 // The event of a head.
@@ -130,8 +105,10 @@ fn put_block(out: &mut [u8], head: Head) -> usize {
 
 // What is written; a refused head is its fault line alone.
 fn run(buf: &mut [u8], out: &mut [u8]) {
-    let l = begin(buf);
-    let head = head_of(buf, l);
+    let limits = limits();
+    let first = head::begin(buf, &limits);
+    let have = first.have;
+    let head = head::read_head(&buf[..have], &limits);
     if head.answer == 0 {
         let at = put_block(out, head);
         stdio::flush(out, at);
