@@ -80,13 +80,9 @@ reads-done st ws o s l g e = rw (ne-eqb _ _ s, ne-eqb (length ws) 0 (λ z. s (om
 
 -- with words to read, the header decides first, where there is one
 module _ (st : Settings) (ws : List ℕ) (s : eventLength st ≡ 0 → ⊥) (l : length ws ≡ 0 → ⊥) where
-  pub read-headed : st .header ≡ true → readAnswer st ws ≡ headerAnswer st (getD ws 0 0) (bodyAnswer st ws)
+  pub read-by-header : (t : Bool) → st .header ≡ t → readAnswer st ws ≡ cond t (headerAnswer st (getD ws 0 0) (bodyAnswer st ws)) (bodyAnswer st ws)
   unfolding readAnswer
-  read-headed h = rw (ne-eqb _ _ s, ne-eqb _ _ l) (ap (λ (t : Bool). cond t (headerAnswer st (getD ws 0 0) (bodyAnswer st ws)) (bodyAnswer st ws)) h)
-
-  pub read-bare : st .header ≡ false → readAnswer st ws ≡ bodyAnswer st ws
-  unfolding readAnswer
-  read-bare h = rw (ne-eqb _ _ s, ne-eqb _ _ l) (ap (λ (t : Bool). cond t (headerAnswer st (getD ws 0 0) (bodyAnswer st ws)) (bodyAnswer st ws)) h)
+  read-by-header t h = rw (ne-eqb _ _ s, ne-eqb _ _ l) (ap (λ (u : Bool). cond u (headerAnswer st (getD ws 0 0) (bodyAnswer st ws)) (bodyAnswer st ws)) h)
 
 pub done-fits : (st : Settings) (ws : List ℕ) → isDone (readAnswer st ws) ≡ true → eventLength st ≤ length ws
 done-fits st ws d = body-done st ws (read-done st ws d .2) .0
@@ -96,26 +92,24 @@ pub both : (s t : Bool) → s && t ≡ true → (s ≡ true) × (t ≡ true)
 both true t e = (refl, e)
 both false t e = absurd (false≢true e)
 
+three : (s t u : Bool) → s && t && u ≡ true → (s ≡ true) × (t ≡ true) × (u ≡ true)
+three s t u e = let a = both (s && t) u e in let b = both s t (a .0) in (b .0, b .1, a .1)
+
 pub fields-fit : (ev : Event) → fieldsFit ev ≡ true → (ev .geo ≤ 31) × (ev .source ≤ 3) × (ev .trigger ≤ 65535)
 fields-fit ev e =
-    let a = both (leb (ev .geo) 31 && leb (ev .source) 3) _ e in
-    let b = both (leb (ev .geo) 31) _ (a .0) in
-    (leb-true _ _ (b .0), leb-true _ _ (b .1), leb-true _ _ (a .1))
+    let a = three (leb (ev .geo) 31) (leb (ev .source) 3) _ e in
+    (leb-true _ _ (a .0), leb-true _ _ (a .1), leb-true _ _ (a .2))
 
 pub fields-zero : (ev : Event) → fieldsZero ev ≡ true → (ev .geo ≡ 0) × (ev .source ≡ 0) × (ev .trigger ≡ 0)
 fields-zero ev e =
-    let a = both (eqb (ev .geo) 0 && eqb (ev .source) 0) _ e in
-    let b = both (eqb (ev .geo) 0) _ (a .0) in
-    (eqb-true _ _ (b .0), eqb-true _ _ (b .1), eqb-true _ _ (a .1))
+    let a = three (eqb (ev .geo) 0) (eqb (ev .source) 0) _ e in
+    (eqb-true _ _ (a .0), eqb-true _ _ (a .1), eqb-true _ _ (a .2))
 
 -- an event that can be written: its fields fit, without header they are 0, and its counts fit
 pub writable-parts : (st : Settings) (ev : Event) → writable st ev ≡ true
     → (fieldsFit ev ≡ true) × (cond (st .header) true (fieldsZero ev) ≡ true) × (countsFit (st .short) (st .enable) (ev .counts) ≡ true)
 unfolding writable
-writable-parts st ev e =
-    let a = both (fieldsFit ev && cond (st .header) true (fieldsZero ev)) _ e in
-    let b = both (fieldsFit ev) _ (a .0) in
-    (b .0, b .1, a .1)
+writable-parts st ev e = three (fieldsFit ev) (cond (st .header) true (fieldsZero ev)) _ e
 
 -- what an answer without refusal says: the event has words, can be written, and has room
 pub write-done : (st : Settings) (ev : Event) (lent : List ℕ) → isDone (writeAnswer st ev lent) ≡ true

@@ -58,7 +58,7 @@ readAnswer st ws =
 abbrev pub countIn : Bool → ℕ → ℕ
 countIn short datum = cond short (datum % 2 ^ 26) datum
 
--- the counts with those of the data at their channels; with no word there is no count
+-- the counts with those of the data at their channels; for each channel there is a word, since 20 is looked at before
 unfoldable pub countsIn : Bool → List ℕ → List ℕ → List ℕ → List ℕ
 countsIn short [] ws counts = counts
 countsIn short (k ∷ ks) [] counts = counts

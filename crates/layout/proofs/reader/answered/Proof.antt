@@ -1,9 +1,10 @@
 -- The tests of the definition, with the length as the code has it. Assumes nothing.
 use mathlib.Core.Path.{sym, _∙_}
+use mathlib.Core.Bool.{true, false}
 use denote.Ref.{now}
 use borrow.Author.Tests.{eq-eqb, ne-eqb}
 use Rattle.layout.specs.Reader.{readAnswer}
-use Rattle.layout.proofs.Answers.{read-headed, read-bare}
+use Rattle.layout.proofs.Answers.{read-by-header}
 use Rattle.layout.proofs.Lengths.{length-of}
 use borrow.Author.Needs.{needs}
 use Rattle.layout.proofs.reader.answered.Statement.{statement}
@@ -29,7 +30,7 @@ header-answered-requires c κs = search needs
 returns-3 : tie.Need-returns-3
 returns-3 c =
     let a = c .before .before .before .before .before .before .before .before .args in
-    c .header-answered .ensures ∙ sym (read-headed (a .settings) (now (a .words)) (rw (length-of (a .settings) (c .before .before .before .before .before .before .event-length .ensures)) (c .before .before .before .before .if1 .left)) (c .before .before .before .if2 .left) (c .before .before .if3 .taken))
+    c .header-answered .ensures ∙ sym (read-by-header (a .settings) (now (a .words)) (rw (length-of (a .settings) (c .before .before .before .before .before .before .event-length .ensures)) (c .before .before .before .before .if1 .left)) (c .before .before .before .if2 .left) true (c .before .before .if3 .taken))
 
 body-answered-requires : tie.Need-body-answered-requires
 body-answered-requires c κs = search needs
@@ -37,7 +38,7 @@ body-answered-requires c κs = search needs
 returns-4 : tie.Need-returns-4
 returns-4 c =
     let a = c .before .before .before .before .before .before .before .args in
-    c .body-answered .ensures ∙ sym (read-bare (a .settings) (now (a .words)) (rw (length-of (a .settings) (c .before .before .before .before .before .event-length .ensures)) (c .before .before .before .if1 .left)) (c .before .before .if2 .left) (c .before .if3 .left))
+    c .body-answered .ensures ∙ sym (read-by-header (a .settings) (now (a .words)) (rw (length-of (a .settings) (c .before .before .before .before .before .event-length .ensures)) (c .before .before .before .if1 .left)) (c .before .before .if2 .left) false (c .before .if3 .left))
 
 pub answered-spec : {M : Type 1} → statement M
 answered-spec =
