@@ -1,2 +1,4 @@
 pub mod Look
 pub mod Requests
+pub mod Places
+pub mod Numbers

@@ -46,7 +46,7 @@ module _ (m n v : ℕ) (h : v < n) where
 
 -- ---- the laws of a chain
 -- what holds of the parts above, clocked or not, holds of what a test picks
-on-carry : (P : List ℕ → Type 0) (b : Bool) (up same : List ℕ) → (b ≡ true → P up) → (b ≡ false → P same) → P (cond b up same)
+pub on-carry : (P : List ℕ → Type 0) (b : Bool) (up same : List ℕ) → (b ≡ true → P up) → (b ≡ false → P same) → P (cond b up same)
 on-carry P true up same t f = t refl
 on-carry P false up same t f = f refl
 

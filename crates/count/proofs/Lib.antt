@@ -1,3 +1,5 @@
 pub mod Bits
 pub mod Carry
 pub mod Determined
+pub mod Mapping
+pub mod Repeats

@@ -1,6 +1,7 @@
 // One counter of w bits: what a tick does to it, and when a watched bit rises.
 ghost use mathlib.Core.Path.{_≡_};
-ghost use Rattle.count.specs.Counter.{bitsOf, tickOf, rises};
+ghost use mathlib.Core.List.{map};
+ghost use Rattle.count.specs.Counter.{bitsOf, next, tickOf, rises};
 
 // How wide a counter is: 24 bits in the V260, 32 in the V560 and the V830.
 pub enum Width {
@@ -41,4 +42,15 @@ pub fn bit_rose(bit: u32, before: u32, after: u32) -> bool
         return false;
     }
     (after >> bit) % 2 == 1
+}
+
+// Each of the lent counters counts one.
+pub fn tick_each(width: Width, counts: &mut [u32])
+    ensures { λ _. ⌜ now (counts .exit) ≡ map (next (bitsOf width)) (now (counts .entry)) ⌝ }
+{
+    let mut k = 0;
+    while k < counts.len() {
+        counts[k] = tick(width, counts[k]).value;
+        k += 1;
+    }
 }

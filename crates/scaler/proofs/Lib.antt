@@ -1,0 +1,7 @@
+pub mod Any
+pub mod Clocks
+pub mod Runs
+pub mod Counted
+pub mod Admitted
+pub mod Fair
+pub mod Refusals

@@ -1,0 +1,5 @@
+pub mod Fitting
+pub mod Channels
+pub mod Stepping
+pub mod ScaleHolds
+pub mod Numbering

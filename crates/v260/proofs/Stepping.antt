@@ -1,0 +1,178 @@
+-- The V260 as a module of scales: what every call that does not clear does to a joined scale. Assumes nothing.
+use Prim.Native.Nat.{ℕ, zero, suc, _+_, _%_, _<_}
+use mathlib.Core.Path.{_≡_, refl, sym, ap, subst, _∙_}
+use mathlib.Core.Bool.{Bool, false, cond}
+use mathlib.Core.List.{map}
+use native.Mathlib.Omega.{arith}
+use borrow.Author.Tests.{eqb-true}
+use lib.Dec.{eqb, ltb}
+use lib.ListN.{length, length-map}
+use Rattle.count.specs.Counter.{next, bit, iterate}
+use Rattle.count.proofs.Bits.{no-bit}
+use Rattle.bus.specs.declared.Access.{Access}
+use Rattle.bus.specs.declared.Answer.the-variants.{NoMeaning, NoChannel, Malformed}
+use Rattle.bus.specs.declared.interrupter.Interrupter.{Interrupter}
+use Rattle.bus.specs.declared.table.Register.{Register}
+use Rattle.bus.specs.declared.table.Register.the-variants.{At, Refused}
+use Rattle.bus.specs.Table.{lookUp}
+use Rattle.scaler.specs.declared.Call.the-variants as call
+use Rattle.scaler.specs.declared.Order.the-variants as order
+use Rattle.scaler.specs.Orders.{inhibited}
+use Rattle.scaler.proofs.Clocks.{either-way}
+use Rattle.scaler.proofs.Fair.{Module, byRow, Scale, Fair, fair-cond, fair-refused, fair-inhibited, Own}
+use Rattle.scaler.proofs.Runs.{path, run-ticks, others-stay, length-clocked, single-ticks}
+use Rattle.v260.specs.declared.Switches.{Switches}
+use Rattle.v260.specs.declared.V260.{V260}
+use Rattle.v260.specs.declared.Outcome.{Outcome}
+use Rattle.v260.specs.Outcomes.{refused, done, isFormed}
+use Rattle.v260.specs.Counting.{after, isJoined, pulsed, counted, pulse, tested, pulsesOf, testOf}
+use Rattle.v260.specs.Registers.{registers, obey, performed, reached, accessOf}
+use Rattle.v260.specs.Calls.{orderOf, triggerOf, stepOf}
+use Rattle.v260.proofs.Channels.{Joined, channels, scale-run, scale-shut, scale-other}
+
+-- what the calls are
+pub pulses-are : (s : V260) (i : Interrupter) (x n : ℕ)
+    → stepOf s i (call.Pulses x n) ≡ cond (isFormed s i) (cond (ltb x 16) (iterate n (pulse x) (done 0 s i)) (refused NoChannel s i)) (refused Malformed s i)
+unfolding pulsesOf
+pulses-are s i x n = refl
+
+pub line-is : (s : V260) (i : Interrupter) (on : Bool) → stepOf s i (call.VetoLine on) ≡ cond (isFormed s i) (obey (order.VetoLine on) s i) (refused Malformed s i)
+unfolding orderOf
+line-is s i on = refl
+
+pub test-is : (s : V260) (i : Interrupter) → stepOf s i call.Test ≡ cond (isFormed s i) (tested s i) (refused Malformed s i)
+unfolding testOf
+test-is s i = refl
+
+pub order-is : (s : V260) (i : Interrupter)
+    → (stepOf s i call.ClearLine ≡ cond (isFormed s i) (obey order.ClearLine s i) (refused Malformed s i))
+    × (stepOf s i call.ManClr ≡ cond (isFormed s i) (obey order.ManClr s i) (refused Malformed s i))
+unfolding orderOf
+order-is s i = (refl, refl)
+
+pub trigger-is : (s : V260) (i : Interrupter) → stepOf s i call.Trigger ≡ cond (isFormed s i) (refused NoMeaning s i) (refused Malformed s i)
+unfolding triggerOf
+trigger-is s i = refl
+
+pub access-is : (s : V260) (i : Interrupter) (a : Access)
+    → stepOf s i (call.Access a) ≡ cond (isFormed s i) (byRow (λ why. refused why s i) (λ at place. performed at place s i a) (lookUp 0 registers a)) (refused Malformed s i)
+unfolding accessOf
+access-is s i a = ap (λ (o : Outcome). cond (isFormed s i) o (refused Malformed s i)) (rows (lookUp 0 registers a))
+  where
+    rows : (to : Register) → reached to s i a ≡ byRow (λ why. refused why s i) (λ at place. performed at place s i a) to
+    rows (Refused why) = refl
+    rows (At at place) = refl
+
+-- the module
+abbrev pub v260 : Module V260 Outcome
+v260 =
+    record {
+      answer = λ o. o .answer;
+      state = λ o. o .state;
+      interrupter = λ o. o .interrupter;
+      scales = λ s. s .scales;
+      registers = registers;
+      step = stepOf;
+      pulse = pulse;
+      ignores = λ s x. isJoined (s .switches) x;
+      clocks = λ s x. pulsed (s .switches) (s .scales .counts) x;
+      counted = λ l o. counted l (o .state) (o .interrupter);
+      pulse-is = λ x o. refl;
+      counted-answer = λ l o. refl;
+      counted-scales = λ l o. refl;
+      counted-ignores = λ l o x. refl;
+      formed = isFormed;
+      refused = refused;
+      done = done 0;
+      tested = tested;
+      ordered = obey;
+      performed = performed;
+      refused-is = λ why s i. (refl, refl, refl);
+      done-is = λ s i. (refl, refl);
+      pulses-are = pulses-are;
+      line-is = line-is;
+      test-is = test-is;
+      order-is = order-is;
+      trigger-is = trigger-is;
+      access-is = access-is;
+    }
+
+-- a call that leaves the switches and the counts
+abbrev pub Quiet : V260 → Outcome → Type 0
+Quiet s o = (o .state .switches ≡ s .switches) × (o .state .scales .counts ≡ s .scales .counts)
+
+-- every row but Scale Increase and the clear access leaves the counts
+pub quiet-performed : (at place : ℕ) (s : V260) (i : Interrupter) (a : Access) → eqb at 1 ≡ false → eqb at 4 ≡ false → Quiet s (performed at place s i a)
+quiet-performed at place s i a e g =
+    let P : Outcome → Type 0 = Quiet s in
+    rw (e, g)
+    (either-way P (eqb at 0) _ _ (refl, refl)
+    (either-way P (eqb at 2) _ _ (refl, refl)
+    (either-way P (eqb at 3) _ _ (refl, refl)
+    (either-way P (eqb at 5) _ _ (either-way P (eqb (a .width) 32) _ _ (refl, refl) (refl, refl))
+    (either-way P (eqb at 6) _ _ (refl, refl)
+    (either-way P (eqb at 8) _ _ (refl, refl)
+    (either-way P (eqb at 9) _ _ (refl, refl)
+    (either-way P (eqb at 10) _ _ (refl, refl)
+    (either-way P (eqb at 11) _ _ (refl, refl)
+    (either-way P (eqb at 12) _ _ (refl, refl) (refl, refl)))))))))))
+
+-- a module with sixteen counts that has this joined scale
+pub record Fit (f k : ℕ) (s : V260) : Type 0 where
+  pub joined : Joined (s .switches) f k
+  pub size : length (s .scales .counts) ≡ 16
+
+module _ (f k : ℕ) where
+  pub scale : Scale v260 24 (channels f k) f (Fit f k)
+  scale =
+      record {
+        own-input = λ s g. g .joined .own-input;
+        own-tick = λ s g. run-ticks 24 (λ y. isJoined (s .switches) (after y)) after 16 16 k f (s .scales .counts) (g .joined .many) (g .size) (scale-run (s .switches) f k (g .joined));
+        other-stays = λ s x g h n j. others-stay 24 (λ y. isJoined (s .switches) (after y)) after 16 (channels f k) (scale-shut (s .switches) f k (g .joined)) 16 x (s .scales .counts) h (scale-other (s .switches) f k (g .joined) x h n j);
+        size = λ s g. g .size;
+        same-size = λ s x. length-clocked 24 (λ y. isJoined (s .switches) (after y)) after 16 16 x (s .scales .counts);
+        stays-fit = λ o l g e. record { joined = g .joined; size = e ∙ g .size };
+      }
+
+  module _ (s : V260) (i : Interrupter) (g : Fit f k s) where
+    abbrev Fairly : ℕ → Outcome → Type 0
+    Fairly p o = Fair v260 24 (channels f k) f (Fit f k) p s o
+
+    -- a call that leaves switches and counts leaves the scale
+    still : (o : Outcome) → Quiet s o → Fit f k (o .state) × (o .state .scales .counts ≡ s .scales .counts)
+    still o q = (record { joined = subst (λ (w : Switches). Joined w f k) (sym (q .0)) (g .joined); size = ap length (q .1) ∙ g .size }, q .1)
+
+    -- without a joined channel the scale is a single one
+    single : (k : ℕ) → Joined (s .switches) f k → s .switches .joined ≡ 0 → k ≡ 0
+    single zero c e = refl
+    single (suc k) c e =
+        let j = (f + 1) % 16 in
+        let b : bit 0 j ≡ 1 = rw e at (eqb-true (bit (s .switches .joined) j) 1 (c .joined 1 (omega arith) (omega arith))) in
+        let z : bit 0 j ≡ 0 = no-bit 0 j 0 (omega arith) (omega arith) in
+        absurd (omega (arith, sym z ∙ b))
+
+    -- TEST: nothing joined and not inhibited, each channel, and so the scale of one, counts one
+    fair-each : s .switches .joined ≡ 0 → inhibited (s .scales) ≡ false → Fairly 1 (counted (map (next 24) (s .scales .counts)) s i)
+    unfolding path iterate
+    fair-each e h =
+        let z = single k (g .joined) e in
+        let l : f < length (s .scales .counts) = rw (g .size) (g .joined .first) in
+        let n = length-map (s .scales .counts) (next 24) in
+        (record { joined = g .joined; size = n ∙ g .size }, rw h (record { size = n; ticks = rw z (single-ticks 24 f (s .scales .counts) l) }))
+
+    fair-tested : Fairly 1 (tested s i)
+    fair-tested =
+        fair-cond v260 24 (channels f k) f (Fit f k) 1 s (eqb (s .switches .joined) 0) _ (refused NoMeaning s i)
+        (λ e. fair-cond v260 24 (channels f k) f (Fit f k) 1 s (inhibited (s .scales)) (done 0 s i) _
+        (λ h. fair-inhibited v260 24 (channels f k) f (Fit f k) 1 s (done 0 s i) g refl h)
+        (λ h. fair-each (eqb-true (s .switches .joined) 0 e) h))
+        (λ _. fair-refused v260 24 (channels f k) f (Fit f k) 1 s (refused NoMeaning s i) g refl refl)
+
+  pub own : Own v260 24 (channels f k) f (Fit f k)
+  own =
+      record {
+        line-stays = λ s i on g. still s i g (obey (order.VetoLine on) s i) (refl, refl);
+        row-stays = λ at place s i a g q e. still s i g (performed at place s i a) (quiet-performed at place s i a q e);
+        increase-is = λ place s i a. refl;
+        fair-tested = λ s i g. fair-tested s i g;
+      }

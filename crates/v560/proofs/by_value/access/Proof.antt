@@ -1,0 +1,67 @@
+-- 12, then what the table says; a place that is reached lies within its row. Assumes nothing.
+use Prim.Native.Nat.{_≤_}
+use mathlib.Core.Path.{refl, sym, _∙_}
+use native.Mathlib.Omega.{arith}
+use Rattle.bus.proofs.Places.{places-narrow}
+use Rattle.v560.specs.Registers.{registers, accessOf}
+use borrow.Author.Tests.{not-true, not-false, leb-true}
+use borrow.Author.Needs.{needs}
+use Rattle.v560.proofs.by_value.access.Statement.{statement}
+use Rattle.v560.proofs.by_value.access.Tie as tie
+
+is-well-formed-requires : tie.Need-is-well-formed-requires
+is-well-formed-requires c κs = search needs
+
+refused-requires : tie.Need-refused-requires
+refused-requires c κs = search needs
+
+returns : tie.Need-returns
+unfolding accessOf
+returns c = rw (sym (c .before .before .is-well-formed .ensures) ∙ not-true (c .before .before .is-well-formed .result) (c .before .if1 .taken)) (c .refused .ensures)
+
+look-up-requires : tie.Need-look-up-requires
+look-up-requires c κs = search needs
+
+enum-known-why : tie.Need-enum-known-why
+enum-known-why c = search needs
+
+refused-requires-2 : tie.Need-refused-requires-2
+refused-requires-2 c κs = search needs
+
+enum-known-row : tie.Need-enum-known-row
+enum-known-row c = search needs
+
+perform-requires : tie.Need-perform-requires
+perform-requires c κs =
+    let l = c .before .before .before in
+    let w = l .before .before in
+    let a = w .before .args in
+    let h : a .i .level ≤ 7 = leb-true (a .i .level) 7 (sym (w .is-well-formed .ensures) ∙ not-false (w .is-well-formed .result) (l .before .if1 .left)) in
+    (rw (sym (l .look-up .ensures) ∙ c .before .row .given .1) at (places-narrow 16 0 registers (a .a) refl (omega arith)), omega arith)
+
+returns-2 : tie.Need-returns-2
+unfolding accessOf
+returns-2 c =
+    let l = c .before .before .before .before in
+    rw (sym (l .before .before .is-well-formed .ensures) ∙ not-false (l .before .before .is-well-formed .result) (l .before .if1 .left), sym (l .look-up .ensures) ∙ c .before .before .why .given .1) (c .refused2 .ensures)
+
+returns-3 : tie.Need-returns-3
+unfolding accessOf
+returns-3 c =
+    let l = c .before .before .before .before in
+    rw (sym (l .before .before .is-well-formed .ensures) ∙ not-false (l .before .before .is-well-formed .result) (l .before .if1 .left), sym (l .look-up .ensures) ∙ c .before .before .row .given .1) (c .perform .ensures)
+
+pub access-spec : {M : Type 1} → statement M
+access-spec =
+    tie.close
+    (tie.spec
+    is-well-formed-requires
+    refused-requires
+    returns
+    look-up-requires
+    enum-known-why
+    refused-requires-2
+    enum-known-row
+    perform-requires
+    returns-2
+    returns-3)

@@ -1,0 +1,30 @@
+-- Every call of the V560 (document 01, "Registers of the V260 and V560"). Assumes nothing.
+use Rattle.bus.specs.declared.Answer.the-variants.{NoMeaning}
+use Rattle.bus.specs.declared.interrupter.Interrupter.{Interrupter}
+use Rattle.scaler.specs.declared.Call.{Call}
+use Rattle.scaler.specs.declared.Call.the-variants as call
+use Rattle.scaler.specs.declared.Order.{Order}
+use Rattle.scaler.specs.declared.Order.the-variants as order
+use Rattle.v560.specs.declared.V560.{V560}
+use Rattle.v560.specs.declared.Outcome.{Outcome}
+use Rattle.v560.specs.Outcomes.{refused, formed}
+use Rattle.v560.specs.Counting.{pulsesOf, testOf}
+use Rattle.v560.specs.Registers.{obey, accessOf}
+
+-- a line or the button: nothing but 12 is refused
+unfoldable pub orderOf : Order → V560 → Interrupter → Outcome
+orderOf o s i = formed s i (obey o s i)
+
+-- a trigger, for which the module has no input: 4 (docs/FORMATS.md, `trace`)
+unfoldable pub triggerOf : V560 → Interrupter → Outcome
+triggerOf s i = formed s i (refused NoMeaning s i)
+
+-- any call
+abbrev pub stepOf : V560 → Interrupter → Call → Outcome
+stepOf s i (call.Pulses k n) = pulsesOf s i k n
+stepOf s i (call.VetoLine on) = orderOf (order.VetoLine on) s i
+stepOf s i call.Test = testOf s i
+stepOf s i call.ClearLine = orderOf order.ClearLine s i
+stepOf s i call.Trigger = triggerOf s i
+stepOf s i (call.Access a) = accessOf s i a
+stepOf s i call.ManClr = orderOf order.ManClr s i
