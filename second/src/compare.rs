@@ -7,6 +7,8 @@ pub struct Difference {
     pub line: usize,
     pub own: String,
     pub theirs: String,
+    /// The name of the first differing number, by the listing's first line, if it has one.
+    pub column: Option<String>,
 }
 
 /// What a comparison found, in words, and whether everything agreed.
@@ -25,21 +27,42 @@ impl Verdict {
 }
 
 /// The first line in which the two listings differ, if any.
-pub fn first_difference(own: &[u8], theirs: &[u8]) -> Option<Difference> {
-    if own == theirs {
+pub fn first_difference(all_own: &[u8], theirs: &[u8]) -> Option<Difference> {
+    if all_own == theirs {
         return None;
     }
-    let mut own_lines = own.split_inclusive(|byte| *byte == b'\n');
+    let mut own_lines = all_own.split_inclusive(|byte| *byte == b'\n');
     let mut their_lines = theirs.split_inclusive(|byte| *byte == b'\n');
     let mut line = 0;
     loop {
         let (own, theirs) = (own_lines.next(), their_lines.next());
         if own != theirs {
             let (own, theirs) = (shown_line(own), shown_line(theirs));
-            return Some(Difference { line, own, theirs });
+            return Some(Difference {
+                line,
+                column: column_of(all_own, line, &own, &theirs),
+                own,
+                theirs,
+            });
         }
         line += 1;
     }
+}
+
+/// The name of the first number in which two lines of numbers differ, if the first line names it.
+fn column_of(listing: &[u8], line: usize, own: &str, theirs: &str) -> Option<String> {
+    let title = listing.split(|byte| *byte == b'\n').next()?;
+    let names: Vec<_> = title.split(|byte| *byte == b' ').collect();
+    let pairs = own.split(' ').zip(theirs.split(' '));
+    let numbers = |text: &str| {
+        text.bytes()
+            .next()
+            .map_or(false, |byte| byte.is_ascii_digit())
+    };
+    let named = !numbers(&title.escape_ascii().to_string());
+    let at = pairs.clone().position(|(own, theirs)| own != theirs)?;
+    let name = names.get(at)?.escape_ascii().to_string();
+    Some(name).filter(|_| line > 0 && named && numbers(own) && numbers(theirs))
 }
 
 /// The longest piece of a line that is shown.
@@ -72,7 +95,11 @@ pub fn shown_listing(listing: &[u8]) -> String {
 impl Difference {
     /// The two lines in words.
     pub fn shown(&self) -> String {
-        format!("  own:     {}\n  COMMAND: {}\n", self.own, self.theirs)
+        let lines = format!("  own:     {}\n  COMMAND: {}\n", self.own, self.theirs);
+        match &self.column {
+            None => lines,
+            Some(name) => format!("{}  the first differing number is {}\n", lines, name),
+        }
     }
 }
 
@@ -100,5 +127,25 @@ mod tests {
         let ended = "(no line: the listing has ended)";
         assert_eq!(found("a\nb\n", "a\n"), at(1, "b", ended));
         assert_eq!(found("a\n", "a\n\n"), at(1, ended, ""));
+    }
+
+    #[test]
+    fn the_first_differing_column() {
+        let column = |own: &str, theirs: &str| {
+            first_difference(own.as_bytes(), theirs.as_bytes()).and_then(|found| found.column)
+        };
+        let own = "entry answer value\n0 0 5\n";
+        assert_eq!(
+            column(own, "entry answer value\n0 0 6\n"),
+            Some("value".to_string())
+        );
+        assert_eq!(
+            column(own, "entry answer value\n0 1 6\n"),
+            Some("answer".to_string())
+        );
+        assert_eq!(column(own, "entry answer value\nfault 30 6\n"), None);
+        assert_eq!(column(own, "entry answer value\n"), None);
+        assert_eq!(column(own, "entry answer\n0 0 5\n"), None);
+        assert_eq!(column("0 1\n7 2\n", "0 1\n7 3\n"), None);
     }
 }

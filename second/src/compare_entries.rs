@@ -12,7 +12,7 @@ use crate::run::Program;
 use crate::runs::{first_failing_input, Input};
 
 /// Ends of a log with each fault, or none, at each argument; some are followed by a good entry.
-const ENDS: [&[u8]; 31] = [
+pub const ENDS: [&[u8]; 31] = [
     &[0x80],
     &[0x00],
     &[0x00, 0x1F, 0xFF],

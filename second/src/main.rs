@@ -13,28 +13,45 @@ mod compare_blocks;
 mod compare_entries;
 mod compare_logs;
 mod compare_makeblock;
+mod compare_trace;
 mod failing;
 mod fixed_blocks;
 mod fixed_cases;
 mod fixed_requests;
+mod fixed_traces;
 mod head;
 mod log;
 mod log_listing;
 mod long_blocks;
+mod long_traces;
 mod make_blocks;
 mod make_entries;
 mod make_events;
 mod make_logs;
 mod make_numbers;
 mod make_requests;
+mod make_trace_calls;
+mod make_trace_heads;
+mod make_traces;
 mod makeblock_listing;
+mod module;
+mod registers;
 mod rng;
 mod run;
 mod runs;
+mod scaler;
 mod shrink;
+mod shrink_trace;
 mod tally;
+mod trace_listing;
+mod trace_scripts;
+mod trace_tally;
 mod use_words;
+mod v260;
+mod v560;
 
+#[cfg(test)]
+mod wrong_accesses;
 #[cfg(test)]
 mod wrong_block_listings;
 #[cfg(test)]
@@ -42,7 +59,15 @@ mod wrong_block_readers;
 #[cfg(test)]
 mod wrong_block_writers;
 #[cfg(test)]
+mod wrong_modules;
+#[cfg(test)]
 mod wrong_readers;
+#[cfg(test)]
+mod wrong_slips;
+#[cfg(test)]
+mod wrong_trace_listings;
+#[cfg(test)]
+mod wrong_traces;
 
 use std::io::{self, Read, Write};
 use std::process::ExitCode;
@@ -89,6 +114,7 @@ fn answer(subject: Subject) -> io::Result<String> {
         Subject::Entries => log_listing::list_entries(&input, &log_listing::OWN_READER),
         Subject::Blocks => blocks_listing::own_blocks(&input),
         Subject::Makeblock => makeblock_listing::own_makeblock(&input),
+        Subject::Trace => trace_listing::own_trace(&input),
     })
 }
 
@@ -105,5 +131,6 @@ fn compare(
         Subject::Entries => compare_entries::compare_entries(&program, seed),
         Subject::Blocks => compare_blocks::compare_blocks(&program, seed, cases),
         Subject::Makeblock => compare_makeblock::compare_makeblock(&program, seed, cases),
+        Subject::Trace => compare_trace::compare_trace(&program, seed, cases),
     }
 }

@@ -4,7 +4,7 @@ use crate::case::hex;
 use crate::compare::Verdict;
 use crate::failing::{both_listings, compare_input, Finding};
 use crate::run::Program;
-use crate::shrink::shrink_input;
+use crate::shrink::{shrink_input, smaller_inputs, Smaller};
 use std::sync::atomic::{AtomicUsize, Ordering};
 use std::sync::Mutex;
 use std::thread;
@@ -79,9 +79,13 @@ fn keep_first(first: &mut Option<(usize, Finding)>, index: usize, finding: Findi
 
 /// What the inputs of a part gave by this program's own reading.
 pub trait Counted: Default {
+    /// What is counted besides the runs.
+    const WHAT: &'static str = "events";
+    /// How a failing input is made smaller.
+    const SMALLER: Smaller = smaller_inputs;
     /// Counts what one input gives.
     fn add(&mut self, input: &[u8]);
-    /// How many events were read or written.
+    /// How many events were read or written, or entries read.
     fn events(&self) -> usize;
     /// The counts in words, and whether every possible thing occurred.
     fn shown(&self) -> (String, bool);
@@ -123,7 +127,7 @@ fn compare_part<T: Counted>(
         let words = finding.shown(&input.shown());
         return Err(match finding {
             Finding::Fails(_) => words,
-            Finding::Differs(_) => words + &shown_shrunk(program, list, input),
+            Finding::Differs(_) => words + &shown_shrunk::<T>(program, list, input),
         });
     }
     let mut counts = T::default();
@@ -131,10 +135,11 @@ fn compare_part<T: Counted>(
         .iter()
         .for_each(|input| counts.add(&input.bytes));
     let agreed = format!(
-        "{} inputs agree: {} runs, {} events\n",
+        "{} inputs agree: {} runs, {} {}\n",
         part.name,
         part.inputs.len(),
-        counts.events()
+        counts.events(),
+        T::WHAT
     );
     let (rows, complete) = counts.shown();
     match (part.complete, complete) {
@@ -148,7 +153,7 @@ fn compare_part<T: Counted>(
 }
 
 /// A smaller failing input found below a failing one, in words.
-fn shown_shrunk(program: &Program, list: &Lister, input: &Input) -> String {
+fn shown_shrunk<T: Counted>(program: &Program, list: &Lister, input: &Input) -> String {
     if input.bytes.len() > LONGEST_SHRUNK {
         return String::new();
     }
@@ -157,7 +162,7 @@ fn shown_shrunk(program: &Program, list: &Lister, input: &Input) -> String {
         let differs = || compare_input(program, bytes, &list(bytes));
         Instant::now() < deadline && matches!(differs(), Err(Finding::Differs(_)))
     };
-    let smallest = shrink_input(&fails, &input.bytes, SHRINKING_RUNS);
+    let smallest = shrink_input(&fails, &input.bytes, SHRINKING_RUNS, T::SMALLER);
     format!(
         "smaller failing input found: {}\n{}",
         hex(&smallest),

@@ -53,8 +53,16 @@ fn first_of(
     Ok(None)
 }
 
+/// The inputs one step below an input, the smallest ones first.
+pub type Smaller = fn(&[u8]) -> Vec<Vec<u8>>;
+
 /// A smaller input that fails too, not more than `runs` being tried.
-pub fn shrink_input(fails: &dyn Fn(&[u8]) -> bool, failing: &[u8], runs: usize) -> Vec<u8> {
+pub fn shrink_input(
+    fails: &dyn Fn(&[u8]) -> bool,
+    failing: &[u8],
+    runs: usize,
+    smaller: Smaller,
+) -> Vec<u8> {
     let mut smallest = failing.to_vec();
     let mut left = runs;
     let mut still_fails = |smaller: &Vec<u8>| {
@@ -62,14 +70,24 @@ pub fn shrink_input(fails: &dyn Fn(&[u8]) -> bool, failing: &[u8], runs: usize) 
         left = left.saturating_sub(1);
         tried && fails(smaller)
     };
-    while let Some(smaller) = smaller_inputs(&smallest).into_iter().find(&mut still_fails) {
-        smallest = smaller;
+    let mut turn = 0;
+    loop {
+        // Steps that failed to fail are tried again last.
+        let mut steps = smaller(&smallest);
+        let turned = turn.min(steps.len());
+        steps.rotate_left(turned);
+        match steps.iter().position(&mut still_fails) {
+            None => return smallest,
+            Some(at) => {
+                turn = (turned + at) % steps.len();
+                smallest = steps.swap_remove(at);
+            }
+        }
     }
-    smallest
 }
 
 /// The inputs one step below an input: less a stretch, long ones first, or with one byte 0.
-fn smaller_inputs(input: &[u8]) -> Vec<Vec<u8>> {
+pub fn smaller_inputs(input: &[u8]) -> Vec<Vec<u8>> {
     let mut removed = stretches(input.len());
     removed.sort_by_key(|(from, to)| from + input.len() - to);
     let mut all: Vec<Vec<u8>> = removed
@@ -126,7 +144,7 @@ fn without_stretches(case: &Case) -> Vec<Case> {
 }
 
 /// The stretches tried: all of a short log; halves, quarters and so on of a long one.
-fn stretches(length: usize) -> Vec<(usize, usize)> {
+pub fn stretches(length: usize) -> Vec<(usize, usize)> {
     let mut all = Vec::new();
     if length <= SHORT {
         for from in 0..length {

@@ -3,6 +3,7 @@
 use crate::compare_blocks::DEFAULT_BLOCKS;
 use crate::compare_logs::DEFAULT_CASES;
 use crate::compare_makeblock::DEFAULT_REQUESTS;
+use crate::compare_trace::DEFAULT_RUNS;
 use std::ffi::OsString;
 
 pub const HELP: &str = "\
@@ -22,6 +23,10 @@ compares the proved programs' listings (docs/FORMATS.md) with its own.
   second compare makeblock [--seed N] [--cases N] -- COMMAND [ARGS..]
       Events to write in the format of makeblock, run likewise. N random ones
       are made (1200 unless said otherwise), besides the fixed ones.
+  second compare trace [--seed N] [--cases N] -- COMMAND [ARGS..]
+      Logs for a V260 or a V560 in the format of trace, run likewise. N random
+      whole runs of each module are made (1200 unless said otherwise), besides
+      broken heads and logs, the fixed and the long ones.
   second answer logs
       Reads cases on standard input, prints the listing of logcases.
   second answer entries
@@ -30,6 +35,8 @@ compares the proved programs' listings (docs/FORMATS.md) with its own.
       Reads a capture on standard input, prints the listing of blocks.
   second answer makeblock
       Reads an event to write on standard input, prints the listing of makeblock.
+  second answer trace
+      Reads a head and a log on standard input, prints the listing of trace.
   second --help
       Prints this.
 
@@ -47,6 +54,7 @@ pub enum Subject {
     Entries,
     Blocks,
     Makeblock,
+    Trace,
 }
 
 impl Subject {
@@ -57,6 +65,7 @@ impl Subject {
             Subject::Entries => None,
             Subject::Blocks => Some(DEFAULT_BLOCKS),
             Subject::Makeblock => Some(DEFAULT_REQUESTS),
+            Subject::Trace => Some(DEFAULT_RUNS),
         }
     }
 }
@@ -99,11 +108,12 @@ fn parse_subject(word: Option<&str>) -> Result<Subject, String> {
         Some("entries") => Ok(Subject::Entries),
         Some("blocks") => Ok(Subject::Blocks),
         Some("makeblock") => Ok(Subject::Makeblock),
+        Some("trace") => Ok(Subject::Trace),
         Some(other) => Err(format!(
-            "'{}' is none of logs, entries, blocks and makeblock",
+            "'{}' is none of logs, entries, blocks, makeblock and trace",
             other
         )),
-        None => Err("logs, entries, blocks or makeblock must be named".to_string()),
+        None => Err("logs, entries, blocks, makeblock or trace must be named".to_string()),
     }
 }
 

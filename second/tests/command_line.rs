@@ -45,6 +45,7 @@ fn it_agrees_with_itself() {
     for (subject, told) in [
         ("blocks", "random inputs agree: 2000 runs"),
         ("makeblock", "random inputs agree: 1200 runs"),
+        ("trace", "random inputs agree: 3000 runs"),
     ] {
         let (code, words) = compare(&[subject, "--", SECOND, "answer", subject]);
         assert_eq!(code, Some(0), "{}", words);
@@ -67,6 +68,16 @@ fn it_answers() {
     written.extend([0; 31]);
     let output = second(&["answer", "makeblock"], &written);
     assert_eq!(output.stdout, b"0 1\n7 2\n");
+    let mut traced = vec![0xB0, 4, 1, 0, 0xFF, 0xFF, 0xFF, 0xFF, 0x0F];
+    traced.extend([0; 14]);
+    traced.extend([0, 1, 1, 8]);
+    let output = second(&["answer", "trace"], &traced);
+    let listing = format!(
+        "\n1 0 0 0 0 0 0 0 0 0 1 1 0{}\nfault 33 26\n",
+        " 0".repeat(30)
+    );
+    let given = String::from_utf8(output.stdout).expect("text");
+    assert!(given.ends_with(&listing), "{}", given);
 }
 
 #[test]
@@ -94,7 +105,7 @@ fn an_event_listing_that_fails_is_said_to_fail() {
         (&["cat"], "MISMATCH in "),
         (&[SECOND, "--help"], "MISMATCH in "),
     ] {
-        for subject in ["blocks", "makeblock"] {
+        for subject in ["blocks", "makeblock", "trace"] {
             let (code, words) = compare(&[&[subject, "--"], command].concat());
             assert_eq!(code, Some(1), "{}", words);
             assert!(words.contains(told), "{}", words);
@@ -109,6 +120,7 @@ fn a_listing_cut_short_is_a_mismatch() {
         ("entries", 600),
         ("blocks", 600),
         ("makeblock", 6),
+        ("trace", 600),
     ] {
         let script = format!("'{}' answer {} | head -c {}", SECOND, subject, bytes);
         let (code, words) = compare(&[subject, "--", "sh", "-c", &script]);
@@ -119,7 +131,7 @@ fn a_listing_cut_short_is_a_mismatch() {
 
 #[test]
 fn bad_use_is_told() {
-    let bad: [&[&str]; 11] = [
+    let bad: [&[&str]; 13] = [
         &[],
         &["compare"],
         &["answer", "notes"],
@@ -131,6 +143,8 @@ fn bad_use_is_told() {
         &["answer", "blocks", "more"],
         &["compare", "blocks", "--"],
         &["compare", "makeblock", "--cases", "x", "--", "cat"],
+        &["answer", "trace", "more"],
+        &["compare", "trace", "--cases", "x", "--", "cat"],
     ];
     for words in bad {
         let output = second(words, b"");

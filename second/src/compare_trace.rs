@@ -1,0 +1,103 @@
+//! `compare trace`: logs for a V260 or a V560, each in a run of COMMAND of its own.
+
+use crate::compare::Verdict;
+use crate::fixed_traces::fixed_traces;
+use crate::long_traces::long_traces;
+use crate::make_traces::make_traces;
+use crate::module::Call;
+use crate::run::Program;
+use crate::runs::{compare_parts, Counted, Part};
+use crate::shrink::Smaller;
+use crate::shrink_trace::smaller_traces;
+use crate::tally::{shown_together, Row};
+use crate::trace_listing::{entries_from, own_trace, read_head, HeadSwitches};
+use crate::trace_tally::ModuleTally;
+
+/// The number of random whole runs of each module unless another is asked for.
+pub const DEFAULT_RUNS: usize = 1_200;
+
+/// The faults of heads and of logs.
+const FAULTS: [u32; 5] = [30, 31, 32, 33, 34];
+
+/// What the inputs gave.
+pub struct TraceTally {
+    entries: usize,
+    v260: ModuleTally,
+    v560: ModuleTally,
+    head_faults: Row<u32>,
+    log_faults: Row<u32>,
+    logs: Row<&'static str>,
+}
+
+impl Default for TraceTally {
+    /// Nothing seen yet.
+    fn default() -> TraceTally {
+        TraceTally {
+            entries: 0,
+            v260: ModuleTally::of_260(),
+            v560: ModuleTally::of_560(),
+            head_faults: Row::new("faults of heads", FAULTS),
+            log_faults: Row::new("faults of logs", FAULTS),
+            logs: Row::new("logs", ["empty", "60 entries or more", "with less"]),
+        }
+    }
+}
+
+impl Counted for TraceTally {
+    const WHAT: &'static str = "entries";
+    const SMALLER: Smaller = smaller_traces;
+
+    /// Counts what one input gives.
+    fn add(&mut self, input: &[u8]) {
+        let (head, place) = match read_head(input) {
+            Err(answer) => return self.head_faults.add(answer),
+            Ok(head) => head,
+        };
+        let (entries, fault) = entries_from(input, place);
+        self.entries += entries.len();
+        let calls = entries.iter().map(Call::of);
+        match head.switches {
+            HeadSwitches::V260(_) => self.v260.add_run(&head, calls),
+            HeadSwitches::V560(_) => self.v560.add_run(&head, calls),
+        }
+        self.logs.add(match entries.len() {
+            0 => "empty",
+            1..=59 => "with less",
+            _ => "60 entries or more",
+        });
+        if let Some((answer, _)) = fault {
+            self.log_faults.add(answer);
+        }
+    }
+
+    /// How many entries were read.
+    fn events(&self) -> usize {
+        self.entries
+    }
+
+    /// The counts in words, and whether every possible thing occurred.
+    fn shown(&self) -> (String, bool) {
+        shown_together([
+            self.v260.shown(),
+            self.v560.shown(),
+            self.head_faults.shown(),
+            self.log_faults.shown(),
+            self.logs.shown(),
+        ])
+    }
+}
+
+/// Compares COMMAND's `trace` listing of every input with this program's own.
+pub fn compare_trace(program: &Program, seed: u64, cases: usize) -> Verdict {
+    let part = |name, inputs, complete| Part {
+        name,
+        inputs,
+        complete,
+    };
+    let parts = [
+        part("fixed", fixed_traces(), true),
+        part("long", long_traces(seed), false),
+        part("random", make_traces(seed, cases), true),
+    ];
+    compare_parts::<TraceTally>(program, seed, &own_trace, &parts)
+}
