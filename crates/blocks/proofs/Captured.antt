@@ -1,11 +1,11 @@
--- The captured words, and the counts of a line, one after the other. Assumes nothing.
+-- The captured words, one after the other. Assumes nothing.
 use Prim.Native.Nat.{ℕ, zero, suc, _+_, _*_, _<_}
 use mathlib.Core.Path.{_≡_, sym, ap}
-use mathlib.Core.List.{List, [], _∷_, _++_, append-assoc}
+use mathlib.Core.List.{List, [], _∷_, _++_}
 use native.Mathlib.Numerals.{add-one}
 use native.Mathlib.Omega.{arith}
 use lib.ListN.{length, getD, set, take}
-use lib.Seq.{take-suc, take-suc-set}
+use lib.Seq.{take-suc-set}
 use Rattle.blocks.specs.Words.{wordOf, wordsFrom}
 
 -- the word at a place
@@ -26,11 +26,3 @@ pub one-word : (bytes words : List ℕ) (i w : ℕ) → i < length words → w �
 one-word bytes words i w h e before =
     let z : 0 + 4 * i ≡ 4 * i = omega arith in
     rw (add-one, take-suc-set words i w h, before, e) (sym (rw z at (words-snoc i bytes 0)))
-
--- a count is stored behind the six numbers before them and the first k
-pub one-count : (six counts numbers : List ℕ) (k v : ℕ) → 6 + k < length numbers → k < length counts → v ≡ getD counts k 0
-    → take (6 + k) numbers ≡ six ++ take k counts
-    → take (6 + (k + 1)) (set numbers (6 + k) v) ≡ six ++ take (k + 1) counts
-one-count six counts numbers k v h j g before =
-    let e : 6 + (k + 1) ≡ suc (6 + k) = omega arith in
-    rw (e, add-one, take-suc-set numbers (6 + k) v h, before, take-suc counts k 0 j, g) (append-assoc six (take k counts) (getD counts k 0 ∷ []))

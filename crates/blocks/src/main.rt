@@ -63,13 +63,6 @@ fn event_in(settings: Settings, bytes: &[u8]) -> Reading
     layout::read_event(settings, &words[..many])
 }
 
-// A count as a number of a line.
-fn wide(count: u32) -> u64
-    ensures { λ r. ⌜ r ≡ count ⌝ }
-{
-    count as u64
-}
-
 // The numbers of an event's line.
 fn numbers_of(place: u64, reply: Reply, event: Event) -> [u64; 38]
     ensures { λ r. ⌜ r ≡ numbersOf place reply event ⌝ }
@@ -82,11 +75,7 @@ fn numbers_of(place: u64, reply: Reply, event: Event) -> [u64; 38]
     numbers[3] = event.geo as u64;
     numbers[4] = event.source as u64;
     numbers[5] = event.trigger as u64;
-    let mut k: usize = 0;
-    while k < 32 {
-        numbers[6 + k] = wide(counts[k]);
-        k += 1;
-    }
+    text::put_words(&mut numbers, 6, &counts);
     numbers
 }
 

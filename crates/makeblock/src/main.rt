@@ -57,23 +57,12 @@ fn first_words() -> [u32; 64]
     words
 }
 
-// A word as a number of a line.
-fn wide(word: u32) -> u64
-    ensures { λ r. ⌜ r ≡ word ⌝ }
-{
-    word as u64
-}
-
 // The words as numbers of a line.
 fn numbers_of(words: [u32; 64]) -> [u64; 64]
     ensures { λ r. ⌜ r ≡ words ⌝ }
 {
     let mut numbers = [0u64; 64];
-    let mut i: usize = 0;
-    while i < 64 {
-        numbers[i] = wide(words[i]);
-        i += 1;
-    }
+    text::put_words(&mut numbers, 0, &words);
     numbers
 }
 

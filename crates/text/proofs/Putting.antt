@@ -1,13 +1,14 @@
 -- Bytes put into a buffer: where they fit and where not, the buffer's length, and two puts that are one. Assumes nothing.
 use Prim.Native.Nat.{ℕ, _+_, _≤_, _<_}
-use mathlib.Core.Path.{_≡_, sym, ap, ap₂, _∙_}
-use mathlib.Core.Bool.{Bool, true, false, cond}
-use mathlib.Core.List.{List, [], _++_, append-assoc}
+use mathlib.Core.Path.{_≡_, refl, sym, ap, ap₂, _∙_}
+use mathlib.Core.Bool.{Bool, true, false, cond, not}
+use mathlib.Core.List.{List, [], _++_, append-assoc, append-nil}
+use native.Mathlib.Numerals.{add-one}
 use native.Mathlib.Omega.{arith}
-use borrow.Author.Tests.{le-leb, lt-leb}
+use borrow.Author.Tests.{le-leb, lt-leb, leb-true, leb-false, not-true, not-false}
 use lib.Dec.{leb}
-use lib.ListN.{length, take, drop, length-append, length-drop}
-use lib.Seq.{length-take-le, take-at, drop-append-add, drop-drop, paste, paste-zero, take-length}
+use lib.ListN.{length, getD, set, take, drop, length-append, length-drop, drop-of-length-le}
+use lib.Seq.{length-take-le, take-at, drop-append-add, drop-drop, paste, paste-zero, paste-suc, take-length}
 use Rattle.text.specs.Text.{put, after}
 
 module _ (out : List ℕ) (at : ℕ) (ws : List ℕ) where
@@ -39,6 +40,27 @@ module _ (out : List ℕ) (at : ℕ) (ws : List ℕ) where
     pub after-over : after out at ws ≡ at
     unfolding after
     after-over = rw (lt-leb (at + length ws) (length out) h)
+
+-- b is the test whether they fit
+module _ (out : List ℕ) (at : ℕ) (ws : List ℕ) (b : Bool) (e : b ≡ leb (at + length ws) (length out)) where
+  -- it fails: nothing is put
+  pub nothing-put : not b ≡ true → (at ≡ after out at ws) × (out ≡ put out at ws)
+  nothing-put n =
+      let h : length out < at + length ws = leb-false _ _ (sym e ∙ not-true b n) in
+      (sym (after-over out at ws h), sym (put-over out at ws h))
+
+  pub they-fit : not b ≡ false → at + length ws ≤ length out
+  they-fit n = leb-true _ _ (sym e ∙ not-false b n)
+
+  -- it holds, and they are copied whole
+  pub all-put : (n : not b ≡ false) (out₁ : List ℕ) → out₁ ≡ paste out at ws (length ws) → (at + length ws ≡ after out at ws) × (out₁ ≡ put out at ws)
+  all-put n out₁ p = (sym (after-fits out at ws (they-fit n)), p ∙ sym (put-paste out at ws (they-fit n)))
+
+-- one byte more of those that are copied there
+pub paste-one : (out₀ : List ℕ) (at : ℕ) (ws out : List ℕ) (i v : ℕ) → at + i < length out₀ → i < length ws → v ≡ getD ws i 0
+    → out ≡ paste out₀ at ws i
+    → set out (at + i) v ≡ paste out₀ at ws (i + 1)
+paste-one out₀ at ws out i v h j e before = rw (before, e, add-one) (paste-suc out₀ at ws i 0 h j)
 
 -- whether they fit or not, the place is at most that after them
 pub after-most : (out : List ℕ) (at : ℕ) (ws : List ℕ) (r : ℕ) → r ≡ after out at ws → r ≤ at + length ws
@@ -72,3 +94,11 @@ put-more out at a b h =
     ∙ ap₂ (λ (x y : List ℕ). x ++ b ++ y) front back
     ∙ ap₂ (λ (x : List ℕ) (n : ℕ). x ++ drop n out) (append-assoc (take at out) a b) m
     ∙ sym (put-fits out at (a ++ b) (omega arith))
+
+-- what is put behind a front fills the rest
+pub put-end : (front rest ws : List ℕ) → length rest ≡ length ws → put (front ++ rest) (length front) ws ≡ front ++ ws
+put-end front rest ws h =
+    let n : length (front ++ rest) ≡ length front + length rest = length-append front rest in
+    put-fits (front ++ rest) (length front) ws (omega (arith, n))
+    ∙ ap₂ (λ (x y : List ℕ). x ++ ws ++ y) (take-at front rest (length front) refl) (drop-append-add front rest (length ws) ∙ drop-of-length-le rest {i = length ws} (omega arith))
+    ∙ append-nil (front ++ ws)

@@ -21,13 +21,7 @@ struct Figures {
 pub fn fits(out: &[u8], at: usize, want: usize) -> bool
     ensures { λ r. ⌜ r ≡ leb (at + want) (length (now (out .entry))) ⌝ }
 {
-    if want > out.len() {
-        return false;
-    }
-    if at > out.len() - want {
-        return false;
-    }
-    true
+    has_room(out.len(), at, want)
 }
 
 // Puts bytes at a place and answers the place after them; where they do not fit it puts nothing.
@@ -41,6 +35,17 @@ pub fn put_text(out: &mut [u8], at: usize, words: &[u8]) -> usize
     at + words.len()
 }
 
+// Puts words as numbers of a line, likewise.
+pub fn put_words(numbers: &mut [u64], at: usize, words: &[u32]) -> usize
+    ensures { λ r. ⌜ (r ≡ after (now (numbers .entry)) at (now (words .entry))) × (now (numbers .exit) ≡ put (now (numbers .entry)) at (now (words .entry))) ⌝ }
+{
+    if !has_room(numbers.len(), at, words.len()) {
+        return at;
+    }
+    widen(numbers, at, words);
+    at + words.len()
+}
+
 // Puts a number in decimal, likewise.
 pub fn put_number(out: &mut [u8], at: usize, n: u64) -> usize
     ensures { λ r. ⌜ (r ≡ after (now (out .entry)) at (decimal n)) × (now (out .exit) ≡ put (now (out .entry)) at (decimal n)) ⌝ }
@@ -49,6 +54,19 @@ pub fn put_number(out: &mut [u8], at: usize, n: u64) -> usize
     let text = d.text;
     let from = d.from;
     put_text(out, at, &text[from..])
+}
+
+// Whether `want` places of `length` are there from a place on.
+fn has_room(length: usize, at: usize, want: usize) -> bool
+    ensures { λ r. ⌜ r ≡ leb (at + want) length ⌝ }
+{
+    if want > length {
+        return false;
+    }
+    if at > length - want {
+        return false;
+    }
+    true
 }
 
 // Copies bytes that fit.
@@ -61,6 +79,25 @@ fn copy(out: &mut [u8], at: usize, words: &[u8])
         out[at + i] = words[i];
         i += 1;
     }
+}
+
+// Copies words that fit, as numbers of a line.
+fn widen(numbers: &mut [u64], at: usize, words: &[u32])
+    requires { ⌜ at + length (now words) ≤ length (now numbers) ⌝ }
+    ensures { λ _. ⌜ now (numbers .exit) ≡ paste (now (numbers .entry)) at (now (words .entry)) (length (now (words .entry))) ⌝ }
+{
+    let mut i = 0;
+    while i < words.len() {
+        numbers[at + i] = wide(words[i]);
+        i += 1;
+    }
+}
+
+// A word as a number of a line.
+fn wide(word: u32) -> u64
+    ensures { λ r. ⌜ r ≡ word ⌝ }
+{
+    word as u64
 }
 
 // The decimal digits of a number, written from the end.

@@ -1,10 +1,10 @@
 -- The first i bytes are copied; a turn copies one more. Assumes nothing.
-use mathlib.Core.Path.{_≡_}
+use mathlib.Core.Path.{_≡_, refl}
 use Prim.Native.Nat.{_-_, _≤_}
 use native.Mathlib.Omega.{arith}
-use native.Mathlib.Numerals.{add-one}
 use lib.ListN.{length}
-use lib.Seq.{paste, paste-zero, paste-suc}
+use lib.Seq.{paste, paste-zero}
+use Rattle.text.proofs.Putting.{paste-one}
 use borrow.Author.Needs.{needs}
 use Rattle.text.proofs.copy.Statement.{statement}
 use Rattle.text.proofs.copy.Tie as tie
@@ -37,8 +37,7 @@ loop-again : tie.Need-loop-again Inv-loop μ-loop
 loop-again c =
     let l = c .before .before .loop in
     let a = c .before .before .before .args in
-    let e : l .out ≡ paste (a .out .now) (a .at) (a .words .now) (l .i) = l .inv .2 in
-    (search needs, search needs, rw (e, add-one) (paste-suc (a .out .now) (a .at) (a .words .now) (l .i) 0 (omega arith) (omega arith)))
+    (search needs, search needs, paste-one (a .out .now) (a .at) (a .words .now) (l .out) (l .i) _ (omega arith) (omega arith) refl (l .inv .2))
 
 same-length : tie.Need-same-length Inv-loop μ-loop
 same-length c = search needs

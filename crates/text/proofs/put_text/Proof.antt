@@ -1,11 +1,7 @@
 -- The bytes do not fit, or are copied whole. Assumes nothing.
-use mathlib.Core.Path.{sym, _∙_}
-use Prim.Native.Nat.{_+_, _≤_, _<_}
 use native.Mathlib.Omega.{arith}
 use borrow.Author.Needs.{needs}
-use borrow.Author.Tests.{leb-true, leb-false, not-true, not-false}
-use lib.ListN.{length}
-use Rattle.text.proofs.Putting.{put-over, after-over, after-fits, put-paste}
+use Rattle.text.proofs.Putting.{nothing-put, they-fit, all-put}
 use Rattle.text.proofs.put_text.Statement.{statement}
 use Rattle.text.proofs.put_text.Tie as tie
 
@@ -17,20 +13,21 @@ same-length c = search needs
 
 returns : tie.Need-returns
 returns c =
-    let f = c .before in
-    let a = f .before .before .before .before .args in
-    let h : length (a .out .now) < a .at + length (a .words .now) = leb-false _ _ (sym (f .fits2 .ensures) ∙ not-true _ (c .if1 .taken)) in
-    (sym (after-over (a .out .now) (a .at) (a .words .now) h), sym (put-over (a .out .now) (a .at) (a .words .now) h))
-
--- they fit
-room : (c : tie.Else1) → c .before .before .before .before .before .args .at + length (c .before .before .before .before .before .args .words .now) ≤ length (c .before .before .before .before .before .args .out .now)
-room c = leb-true _ _ (sym (c .before .fits2 .ensures) ∙ not-false _ (c .if1 .left))
+    let a = c .before .before .before .before .before .args in
+    nothing-put (a .out .now) (a .at) (a .words .now) (c .before .fits2 .result) (c .before .fits2 .ensures) (c .if1 .taken)
 
 copy-requires : tie.Need-copy-requires
-copy-requires c κs = room (c .before)
+copy-requires c κs =
+    let f = c .before .before in
+    let a = f .before .before .before .before .args in
+    omega (arith, they-fit (a .out .now) (a .at) (a .words .now) (f .fits2 .result) (f .fits2 .ensures) (c .before .if1 .left))
 
 add-result : tie.Need-add-result
-add-result c = omega (arith, room (c .before .before .before .before))
+add-result c =
+    let e = c .before .before .before .before in
+    let f = e .before in
+    let a = f .before .before .before .before .args in
+    omega (arith, they-fit (a .out .now) (a .at) (a .words .now) (f .fits2 .result) (f .fits2 .ensures) (e .if1 .left))
 
 same-length-2 : tie.Need-same-length-2
 same-length-2 c = search needs
@@ -38,10 +35,9 @@ same-length-2 c = search needs
 returns-2 : tie.Need-returns-2
 returns-2 c =
     let e = c .before .before .before .before in
-    let a = e .before .before .before .before .before .args in (
-      sym (after-fits (a .out .now) (a .at) (a .words .now) (room e)),
-      c .before .before .copy .ensures ∙ sym (put-paste (a .out .now) (a .at) (a .words .now) (room e)),
-    )
+    let f = e .before in
+    let a = f .before .before .before .before .args in
+    all-put (a .out .now) (a .at) (a .words .now) (f .fits2 .result) (f .fits2 .ensures) (e .if1 .left) _ (c .before .before .copy .ensures)
 
 pub put-text-spec : {M : Type 1} → statement M
 put-text-spec = tie.close (tie.spec fits-requires same-length returns copy-requires add-result same-length-2 returns-2)

@@ -1,0 +1,40 @@
+-- The start, with the counts put in. Assumes nothing.
+use borrow.Author.Needs.{needs}
+use Rattle.trace.proofs.held.begin_260.Statement.{statement}
+use Rattle.trace.proofs.held.begin_260.Tie as tie
+
+switches-of-requires : tie.Need-switches-of-requires
+switches-of-requires c κs = search needs
+
+array-read-start : tie.Need-array-read-start
+array-read-start c = search needs
+
+start-requires : tie.Need-start-requires
+start-requires c κs = search needs
+
+counts-from-requires : tie.Need-counts-from-requires
+counts-from-requires c κs = search needs
+
+start-requires-2 : tie.Need-start-requires-2
+start-requires-2 c κs = search needs
+
+after-260-requires : tie.Need-after-260-requires
+after-260-requires c κs = search needs
+
+returns : tie.Need-returns
+returns c =
+    let k = c .before .before .before in
+    let s = k .before .before .before in
+    rw (c .after-260 .ensures, c .before .before .start2 .ensures, k .counts-from .ensures, s .start .ensures, s .before .switches-of .ensures)
+
+pub begin-260-spec : {M : Type 1} → statement M
+begin-260-spec =
+    tie.close
+    (tie.spec
+    switches-of-requires
+    array-read-start
+    start-requires
+    counts-from-requires
+    start-requires-2
+    after-260-requires
+    returns)

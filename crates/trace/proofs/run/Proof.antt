@@ -1,0 +1,67 @@
+-- What is had of the input lies within its buffer. Assumes nothing.
+use mathlib.Core.Path.{sym}
+use lib.Seq.{length-take-le}
+use borrow.Author.Needs.{needs}
+use Rattle.trace.proofs.run.Statement.{statement}
+use Rattle.trace.proofs.run.Tie as tie
+
+slice-aggregate-begin : tie.Need-slice-aggregate-begin
+slice-aggregate-begin c = search needs
+
+begin-requires : tie.Need-begin-requires
+begin-requires c κs = search needs
+
+slice-reshare-prefix-head-in : tie.Need-slice-reshare-prefix-head-in
+slice-reshare-prefix-head-in c = search needs
+
+slice-aggregate-head-in : tie.Need-slice-aggregate-head-in
+slice-aggregate-head-in c = sym (length-take-le _ _ (c .before .before .before .begin .ensures .1))
+
+head-in-requires : tie.Need-head-in-requires
+head-in-requires c κs = search needs
+
+list-entries-requires : tie.Need-list-entries-requires
+list-entries-requires c κs = search needs
+
+same-length : tie.Need-same-length
+same-length c = search needs
+
+same-length-2 : tie.Need-same-length-2
+same-length-2 c = search needs
+
+returns : tie.Need-returns
+returns c = search needs
+
+put-fault-requires : tie.Need-put-fault-requires
+put-fault-requires c κs = search needs
+
+flush-requires : tie.Need-flush-requires
+flush-requires c κs = search needs
+
+same-length-3 : tie.Need-same-length-3
+same-length-3 c = search needs
+
+same-length-4 : tie.Need-same-length-4
+same-length-4 c = search needs
+
+returns-2 : tie.Need-returns-2
+returns-2 c = search needs
+
+pub run-spec : {M : Type 1} → statement M
+run-spec =
+    tie.close
+    (tie.spec
+    slice-aggregate-begin
+    begin-requires
+    slice-reshare-prefix-head-in
+    slice-aggregate-head-in
+    head-in-requires
+    list-entries-requires
+    same-length
+    same-length-2
+    returns
+    put-fault-requires
+    flush-requires
+    same-length-3
+    same-length-4
+    returns-2)
