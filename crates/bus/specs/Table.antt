@@ -40,3 +40,8 @@ reach at r a =
 unfoldable pub lookUp : ℕ → List Row → Access → Register
 lookUp at [] a = Refused NotInTable
 lookUp at (r ∷ rs) a = cond (covers r (a .offset)) (reach at r a) (lookUp (suc at) rs a)
+
+-- what comes of an access: its refusal by the table, or what the row and the place give
+abbrev pub byTable : {O : Type 0} → (Answer → O) → (ℕ → ℕ → O) → Register → O
+byTable refused performed (Refused why) = refused why
+byTable refused performed (At at place) = performed at place

@@ -19,7 +19,7 @@ use Rattle.bus.specs.declared.table.Row.{Row}
 use Rattle.bus.specs.declared.table.Register.{Register}
 use Rattle.bus.specs.declared.table.Register.the-variants.{At, Refused}
 use Rattle.bus.specs.Answers.{numberOf}
-use Rattle.bus.specs.Table.{lookUp}
+use Rattle.bus.specs.Table.{lookUp, byTable}
 use Rattle.bus.proofs.Places.{left-of, right-of}
 use Rattle.scaler.specs.declared.Call.{Call}
 use Rattle.scaler.specs.declared.Call.the-variants as call
@@ -31,11 +31,6 @@ use Rattle.scaler.proofs.Admitted.{reaches, pulsesTo, admittedOf, clear
 use Rattle.scaler.proofs.Clocks.{cond-same, and-false}
 use Rattle.scaler.proofs.Counted.{Counted, counted-none, counted-then, counted-held, held, zero-parts, zero-held}
 use Rattle.scaler.proofs.Runs.{or-right, countsOf}
-
--- what an access gets, by what the table says
-abbrev pub byRow : {O : Type 0} → (Answer → O) → (ℕ → ℕ → O) → Register → O
-byRow refused performed (Refused why) = refused why
-byRow refused performed (At at place) = performed at place
 
 -- a module: its states S and outcomes O, its table, any call, one pulse on an input
 pub record Module (S O : Type 0) : Type 0 where
@@ -74,7 +69,7 @@ pub record Module (S O : Type 0) : Type 0 where
       × (step s i call.ManClr ≡ cond (formed s i) (ordered order.ManClr s i) (refused Malformed s i))
   pub trigger-is : (s : S) (i : Interrupter) → step s i call.Trigger ≡ cond (formed s i) (refused NoMeaning s i) (refused Malformed s i)
   pub access-is : (s : S) (i : Interrupter) (a : Access)
-      → step s i (call.Access a) ≡ cond (formed s i) (byRow (λ why. refused why s i) (λ at place. performed at place s i a) (lookUp 0 registers a)) (refused Malformed s i)
+      → step s i (call.Access a) ≡ cond (formed s i) (byTable (λ why. refused why s i) (λ at place. performed at place s i a) (lookUp 0 registers a)) (refused Malformed s i)
 
 module _ {S O : Type 0} (m : Module S O) where
   -- the counts of a state
@@ -199,7 +194,7 @@ module _ {S O : Type 0} (m : Module S O) where
       well-formed p o h = fair-cond p s (m .formed s i) o (m .refused Malformed s i) (λ _. h) (λ _. declined p Malformed refl)
 
       by-row : (to : Register) (a : Access) → reaches 4 to ≡ false
-          → Fair (cond (reaches 1 to) 1 0) s (byRow (λ why. m .refused why s i) (λ at place. m .performed at place s i a) to)
+          → Fair (cond (reaches 1 to) 1 0) s (byTable (λ why. m .refused why s i) (λ at place. m .performed at place s i a) to)
       by-row (Refused why) a e = let r = m .refused-is why s i in fair-quiet s (m .refused why s i) (rw (r .1) g) (ap countsIn (r .1))
       by-row (At at place) a e = go (eqb at 1) refl
         where

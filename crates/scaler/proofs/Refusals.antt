@@ -13,14 +13,14 @@ use Rattle.bus.specs.declared.interrupter.Interrupter.{Interrupter}
 use Rattle.bus.specs.declared.table.Register.{Register}
 use Rattle.bus.specs.declared.table.Register.the-variants.{At, Refused}
 use Rattle.bus.specs.Answers.{numberOf, valueOf}
-use Rattle.bus.specs.Table.{lookUp}
+use Rattle.bus.specs.Table.{lookUp, byTable}
 use Rattle.bus.proofs.Numbers.{refusal-value, tableNumber, numberAt, Gives, table-number}
 use Rattle.scaler.specs.declared.Call.{Call}
 use Rattle.scaler.specs.declared.Call.the-variants as call
 use Rattle.scaler.specs.declared.Order.{Order}
 use Rattle.scaler.specs.Orders.{inhibited}
 use Rattle.scaler.proofs.Clocks.{either-way}
-use Rattle.scaler.proofs.Fair.{Module, byRow}
+use Rattle.scaler.proofs.Fair.{Module}
 
 module _ {S O : Type 0} (m : Module S O) where
   -- an outcome of a call on this state that, if it refuses, changes nothing
@@ -58,7 +58,7 @@ module _ {S O : Type 0} (m : Module S O) where
     chained : (o : O) → Same s i o → Same s i (cond (m .formed s i) o (m .refused Malformed s i))
     chained o h = either-way (Same s i) (m .formed s i) o (m .refused Malformed s i) h (same-refused Malformed s i)
 
-    by-row : (to : Register) (a : Access) → Same s i (byRow (λ why. m .refused why s i) (λ at place. m .performed at place s i a) to)
+    by-row : (to : Register) (a : Access) → Same s i (byTable (λ why. m .refused why s i) (λ at place. m .performed at place s i a) to)
     by-row (Refused why) a = same-refused why s i
     by-row (At at place) a = own .row-same at place s i a
 
@@ -102,7 +102,7 @@ module _ {S O : Type 0} (m : Module S O) where
     first o n e = picked (m .formed s i) o (m .refused Malformed s i) e (declined Malformed)
 
     row-answer : (to : Register) (a : Access)
-        → numberOf (m .answer (byRow (λ why. m .refused why s i) (λ at place. m .performed at place s i a) to)) ≡ numberAt (λ at place. numberOf (m .answer (m .performed at place s i a))) to
+        → numberOf (m .answer (byTable (λ why. m .refused why s i) (λ at place. m .performed at place s i a) to)) ≡ numberAt (λ at place. numberOf (m .answer (m .performed at place s i a))) to
     row-answer (Refused why) a = declined why
     row-answer (At at place) a = refl
 

@@ -17,7 +17,7 @@ use Rattle.bus.specs.declared.Answer.the-variants.{NoMeaning, NoChannel, Malfor
 use Rattle.bus.specs.declared.interrupter.Interrupter.{Interrupter}
 use Rattle.bus.specs.declared.table.Register.{Register}
 use Rattle.bus.specs.declared.table.Register.the-variants.{At, Refused}
-use Rattle.bus.specs.Table.{lookUp}
+use Rattle.bus.specs.Table.{lookUp, byTable}
 use Rattle.bus.proofs.Places.{left-of, right-of}
 use Rattle.scaler.specs.declared.Call.{Call}
 use Rattle.scaler.specs.declared.Call.the-variants as call
@@ -29,10 +29,10 @@ use Rattle.scaler.proofs.Runs.{or-true, countsOf, length-path}
 use Rattle.v260.specs.declared.Switches.{Switches}
 use Rattle.v260.specs.declared.V260.{V260}
 use Rattle.v260.specs.declared.Outcome.{Outcome}
-use Rattle.v260.specs.Outcomes.{done, unless, isFormed}
-use Rattle.v260.specs.Counting.{after, isJoined, pulse, tested, pulsesOf, testOf}
-use Rattle.v260.specs.Registers.{registers, performed, reached, accessOf}
-use Rattle.v260.specs.Calls.{orderOf, triggerOf, stepOf}
+use Rattle.v260.specs.Outcomes.{refused, done, unless, isFormed}
+use Rattle.v260.specs.Counting.{after, isJoined, pulse, tested}
+use Rattle.v260.specs.Registers.{registers, performed}
+use Rattle.v260.specs.Calls.{stepOf}
 use Rattle.v260.proofs.Channels.{Joined, channels}
 use Rattle.v260.proofs.Stepping.{v260, Quiet, quiet-performed, Fit, scale, own}
 
@@ -71,7 +71,7 @@ module _ (s : V260) (i : Interrupter) (j : AllJoined s) where
   quiet-pulses x n h =
       subst (Quiet s) (sym (idle v260 x n (done 0 s i) (or-true (inhibited (s .scales)) (isJoined (s .switches) x) (j x h)))) (refl, refl)
 
-  quiet-reached : (to : Register) (a : Access) → reaches 4 to ≡ false → Quiet s (reached to s i a)
+  quiet-reached : (to : Register) (a : Access) → reaches 4 to ≡ false → Quiet s (byTable (λ why. refused why s i) (λ at place. performed at place s i a) to)
   quiet-reached (Refused why) a e = (refl, refl)
   quiet-reached (At at place) a e = go (eqb at 1) refl
     where
@@ -80,7 +80,6 @@ module _ (s : V260) (i : Interrupter) (j : AllJoined s) where
       go false q = quiet-performed at place s i a q e
 
   quiet-step : (c : Call) → clears registers c ≡ false → Quiet s (stepOf s i c)
-  unfolding pulsesOf testOf accessOf orderOf triggerOf
   quiet-step (call.Pulses x n) e =
       quiet-unless Malformed (isFormed s i) _ (λ _. quiet-unless NoChannel (ltb x 16) _ (λ h. quiet-pulses x n (ltb-true x 16 h)))
   quiet-step (call.VetoLine on) e = quiet-unless Malformed (isFormed s i) _ (λ _. (refl, refl))

@@ -12,11 +12,11 @@ use Rattle.v260.specs.Counting.{pulsesOf, testOf}
 use Rattle.v260.specs.Registers.{obey, accessOf}
 
 -- a line or the button: nothing but 12 is refused
-unfoldable pub orderOf : Order → V260 → Interrupter → Outcome
+abbrev pub orderOf : Order → V260 → Interrupter → Outcome
 orderOf o s i = formed s i (obey o s i)
 
 -- a trigger, for which the module has no input: 4 (docs/FORMATS.md, `trace`)
-unfoldable pub triggerOf : V260 → Interrupter → Outcome
+abbrev pub triggerOf : V260 → Interrupter → Outcome
 triggerOf s i = formed s i (refused NoMeaning s i)
 
 -- any call

@@ -61,7 +61,7 @@ pulse k o =
     (counted (pulsed (o .state .switches) (o .state .scales .counts) k) (o .state) (o .interrupter))
 
 -- "n pulses given at once are n single pulses; 0 pulses are answered 0"; 11: channel not below 16
-unfoldable pub pulsesOf : V260 → Interrupter → ℕ → ℕ → Outcome
+abbrev pub pulsesOf : V260 → Interrupter → ℕ → ℕ → Outcome
 pulsesOf s i k n = formed s i (unless (ltb k 16) NoChannel s i (iterate n (pulse k) (done 0 s i)))
 
 -- TEST and Scale Increase; 4: "with any channel joined"; "TEST adds one to each channel", and nothing when inhibited
@@ -70,5 +70,5 @@ tested s i =
     unless (eqb (s .switches .joined) 0) NoMeaning s i
     (cond (inhibited (s .scales)) (done 0 s i) (counted (map (next 24) (s .scales .counts)) s i))
 
-unfoldable pub testOf : V260 → Interrupter → Outcome
+abbrev pub testOf : V260 → Interrupter → Outcome
 testOf s i = formed s i (tested s i)

@@ -1,67 +1,30 @@
 -- The V560 as a module of scales: what every call that does not clear does to a joined section. Assumes nothing.
 use Prim.Native.Nat.{ℕ, _+_, _*_, _-_, _/_, _%_, _<_}
 use mathlib.Core.Path.{_≡_, refl, sym, ap, subst, _∙_}
-use mathlib.Core.Bool.{Bool, true, false, cond, false≢true}
+use mathlib.Core.Bool.{Bool, true, false, false≢true}
 use mathlib.Core.List.{List, [], _∷_}
 use native.Mathlib.Omega.{arith}
 use borrow.Author.Tests.{eqb-true, eq-eqb, ne-eqb}
-use lib.Dec.{eqb, ltb}
+use lib.Dec.{eqb}
 use lib.ListN.{length}
-use Rattle.count.specs.Counter.{bit, iterate}
+use Rattle.count.specs.Counter.{bit}
 use Rattle.count.specs.Chain.{tickChain}
 use Rattle.count.proofs.Bits.{no-bit}
 use Rattle.bus.specs.declared.Access.{Access}
-use Rattle.bus.specs.declared.Answer.the-variants.{NoMeaning, NoChannel, Malformed}
+use Rattle.bus.specs.declared.Answer.the-variants.{NoMeaning}
 use Rattle.bus.specs.declared.interrupter.Interrupter.{Interrupter}
-use Rattle.bus.specs.declared.table.Register.{Register}
-use Rattle.bus.specs.declared.table.Register.the-variants.{At, Refused}
 use Rattle.bus.specs.Interrupting.{wellFormed}
-use Rattle.bus.specs.Table.{lookUp}
-use Rattle.scaler.specs.declared.Call.the-variants as call
 use Rattle.scaler.specs.declared.Order.the-variants as order
 use Rattle.bus.proofs.Places.{right-of}
 use Rattle.scaler.proofs.Clocks.{and-false, either-way}
-use Rattle.scaler.proofs.Fair.{Module, byRow, Scale, Fair, fair-refused, Own}
+use Rattle.scaler.proofs.Fair.{Module, Scale, Fair, fair-refused, Own}
 use Rattle.scaler.proofs.Runs.{among, apart, countsOf, path, Run, run-ticks, others-stay, length-clocked}
 use Rattle.v560.specs.declared.V560.{V560}
 use Rattle.v560.specs.declared.Outcome.{Outcome}
 use Rattle.v560.specs.Outcomes.{refused, done}
-use Rattle.v560.specs.Counting.{isJoined, isLow, isHigh, pulsed, counted, pulse, tested, pulsesOf, testOf}
-use Rattle.v560.specs.Registers.{registers, obey, requestFor, levelFor, vectorFor, performed, reached, accessOf}
-use Rattle.v560.specs.Calls.{orderOf, triggerOf, stepOf}
-
--- what the calls are
-pub pulses-are : (s : V560) (i : Interrupter) (x n : ℕ)
-    → stepOf s i (call.Pulses x n) ≡ cond (wellFormed i) (cond (ltb x 16) (iterate n (pulse x) (done 0 s i)) (refused NoChannel s i)) (refused Malformed s i)
-unfolding pulsesOf
-pulses-are s i x n = refl
-
-pub line-is : (s : V560) (i : Interrupter) (on : Bool) → stepOf s i (call.VetoLine on) ≡ cond (wellFormed i) (obey (order.VetoLine on) s i) (refused Malformed s i)
-unfolding orderOf
-line-is s i on = refl
-
-pub test-is : (s : V560) (i : Interrupter) → stepOf s i call.Test ≡ cond (wellFormed i) (tested s i) (refused Malformed s i)
-unfolding testOf
-test-is s i = refl
-
-pub order-is : (s : V560) (i : Interrupter)
-    → (stepOf s i call.ClearLine ≡ cond (wellFormed i) (obey order.ClearLine s i) (refused Malformed s i))
-    × (stepOf s i call.ManClr ≡ cond (wellFormed i) (obey order.ManClr s i) (refused Malformed s i))
-unfolding orderOf
-order-is s i = (refl, refl)
-
-pub trigger-is : (s : V560) (i : Interrupter) → stepOf s i call.Trigger ≡ cond (wellFormed i) (refused NoMeaning s i) (refused Malformed s i)
-unfolding triggerOf
-trigger-is s i = refl
-
-pub access-is : (s : V560) (i : Interrupter) (a : Access)
-    → stepOf s i (call.Access a) ≡ cond (wellFormed i) (byRow (λ why. refused why s i) (λ at place. performed at place s i a) (lookUp 0 registers a)) (refused Malformed s i)
-unfolding accessOf
-access-is s i a = ap (λ (o : Outcome). cond (wellFormed i) o (refused Malformed s i)) (rows (lookUp 0 registers a))
-  where
-    rows : (to : Register) → reached to s i a ≡ byRow (λ why. refused why s i) (λ at place. performed at place s i a) to
-    rows (Refused why) = refl
-    rows (At at place) = refl
+use Rattle.v560.specs.Counting.{isJoined, isLow, isHigh, pulsed, counted, pulse, tested}
+use Rattle.v560.specs.Registers.{registers, obey, requestFor, levelFor, vectorFor, performed}
+use Rattle.v560.specs.Calls.{stepOf}
 
 -- the module
 abbrev pub v560 : Module V560 Outcome
@@ -89,12 +52,12 @@ v560 =
       performed = performed;
       refused-is = λ why s i. (refl, refl, refl);
       done-is = λ s i. (refl, refl);
-      pulses-are = pulses-are;
-      line-is = line-is;
-      test-is = test-is;
-      order-is = order-is;
-      trigger-is = trigger-is;
-      access-is = access-is;
+      pulses-are = λ s i x n. refl;
+      line-is = λ s i on. refl;
+      test-is = λ s i. refl;
+      order-is = λ s i. (refl, refl);
+      trigger-is = λ s i. refl;
+      access-is = λ s i a. refl;
     }
 
 -- a call that leaves the switches and the counts

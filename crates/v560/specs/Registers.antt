@@ -8,11 +8,9 @@ use lib.ListN.{getD, set}
 use Rattle.bus.specs.declared.Access.{Access}
 use Rattle.bus.specs.declared.Answer.the-variants.{NotInTable}
 use Rattle.bus.specs.declared.interrupter.Interrupter.{Interrupter}
-use Rattle.bus.specs.declared.table.Register.{Register}
-use Rattle.bus.specs.declared.table.Register.the-variants.{At, Refused}
 use Rattle.bus.specs.declared.table.Row.{Row}
 use Rattle.bus.specs.Interrupting.{levelled, vectored}
-use Rattle.bus.specs.Table.{row, lookUp}
+use Rattle.bus.specs.Table.{row, lookUp, byTable}
 use Rattle.scaler.specs.declared.Order.{Order}
 use Rattle.scaler.specs.declared.Order.the-variants.{ClearAccess, VetoSet, VetoReset, Enable, Disable, RemoveRequest}
 use Rattle.scaler.specs.declared.Scales.{Scales}
@@ -107,10 +105,6 @@ performed at place s i a =
     (cond (eqb at 12) (vectorFor (a .write) s i (a .«data»))
     (refused NotInTable s i)))))))))))))
 
--- 1, 2 and 3 by the table, then 4 (Scale Increase) and the deed
-abbrev pub reached : Register → V560 → Interrupter → Access → Outcome
-reached (Refused why) s i a = refused why s i
-reached (At at place) s i a = performed at place s i a
-
-unfoldable pub accessOf : V560 → Interrupter → Access → Outcome
-accessOf s i a = formed s i (reached (lookUp 0 registers a) s i a)
+-- 12, then 1, 2 and 3 by the table, then 4 (Scale Increase) and the deed
+abbrev pub accessOf : V560 → Interrupter → Access → Outcome
+accessOf s i a = formed s i (byTable (λ why. refused why s i) (λ at place. performed at place s i a) (lookUp 0 registers a))

@@ -3,7 +3,7 @@ use mathlib.Core.Path.{refl, sym, _∙_}
 use native.Mathlib.Omega.{arith}
 use Rattle.bus.specs.Interrupting.{wellFormed}
 use Rattle.bus.proofs.Places.{places-narrow, right-of}
-use Rattle.v260.specs.Registers.{registers, accessOf}
+use Rattle.v260.specs.Registers.{registers}
 use borrow.Author.Tests.{not-true, not-false}
 use borrow.Author.Needs.{needs}
 use Rattle.v260.proofs.by_value.access.Statement.{statement}
@@ -16,7 +16,6 @@ refused-requires : tie.Need-refused-requires
 refused-requires c κs = search needs
 
 returns : tie.Need-returns
-unfolding accessOf
 returns c = rw (sym (c .before .before .is-formed .ensures) ∙ not-true (c .before .before .is-formed .result) (c .before .if1 .taken)) (c .refused .ensures)
 
 look-up-requires : tie.Need-look-up-requires
@@ -40,13 +39,11 @@ perform-requires c κs =
     (rw (sym (l .look-up .ensures) ∙ c .before .row .given .1) at (places-narrow 16 0 registers (a .a) refl (omega arith)), h)
 
 returns-2 : tie.Need-returns-2
-unfolding accessOf
 returns-2 c =
     let l = c .before .before .before .before in
     rw (sym (l .before .before .is-formed .ensures) ∙ not-false (l .before .before .is-formed .result) (l .before .if1 .left), sym (l .look-up .ensures) ∙ c .before .before .why .given .1) (c .refused2 .ensures)
 
 returns-3 : tie.Need-returns-3
-unfolding accessOf
 returns-3 c =
     let l = c .before .before .before .before in
     rw (sym (l .before .before .is-formed .ensures) ∙ not-false (l .before .before .is-formed .result) (l .before .if1 .left), sym (l .look-up .ensures) ∙ c .before .before .row .given .1) (c .perform .ensures)

@@ -1,6 +1,5 @@
 -- 12, or what the order does. Assumes nothing.
 use mathlib.Core.Path.{sym, _∙_}
-use Rattle.v260.specs.Calls.{orderOf}
 use borrow.Author.Tests.{not-true, not-false}
 use borrow.Author.Needs.{needs}
 use Rattle.v260.proofs.by_value.ordered.Statement.{statement}
@@ -13,14 +12,12 @@ refused-requires : tie.Need-refused-requires
 refused-requires c κs = search needs
 
 returns : tie.Need-returns
-unfolding orderOf
 returns c = rw (sym (c .before .before .is-formed .ensures) ∙ not-true (c .before .before .is-formed .result) (c .before .if1 .taken)) (c .refused .ensures)
 
 obeyed-requires : tie.Need-obeyed-requires
 obeyed-requires c κs = search needs
 
 returns-2 : tie.Need-returns-2
-unfolding orderOf
 returns-2 c = rw (sym (c .before .before .is-formed .ensures) ∙ not-false (c .before .before .is-formed .result) (c .before .if1 .left)) (c .obeyed .ensures)
 
 pub ordered-spec : {M : Type 1} → statement M
