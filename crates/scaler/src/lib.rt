@@ -1,7 +1,7 @@
 // What the V260 and the V560 have in common: sixteen scales with their latches, the two vetoes, and what each order
 // does to them and to the interrupter beside them.
 ghost use mathlib.Core.Path.{_≡_};
-ghost use Rattle.scaler.specs.Orders.{fresh, inhibited, obeyed};
+ghost use Rattle.scaler.specs.Orders.{fresh, inhibited, zeroed, vetoed, lined, both, obeyed};
 use bus::Access;
 use bus::interrupter::Interrupter;
 
@@ -73,62 +73,49 @@ pub fn obey(order: Order, scales: Scales, interrupter: Interrupter) -> Obeyed
     ensures { λ r. ⌜ r ≡ obeyed order scales interrupter ⌝ }
 {
     let i = interrupter;
-    let mut s = scales;
     match order {
-        Order::ClearAccess => {
-            s.counts = [0; 16];
-            Obeyed {
-                scales: s,
-                interrupter: i.cleared(),
-            }
-        }
-        Order::VetoSet => {
-            s.vme = true;
-            Obeyed {
-                scales: s,
-                interrupter: i,
-            }
-        }
-        Order::VetoReset => {
-            s.vme = false;
-            Obeyed {
-                scales: s,
-                interrupter: i,
-            }
-        }
-        Order::Enable => Obeyed {
-            scales: s,
-            interrupter: i.generating(true),
-        },
-        Order::Disable => Obeyed {
-            scales: s,
-            interrupter: i.generating(false),
-        },
-        Order::RemoveRequest => Obeyed {
-            scales: s,
-            interrupter: i.released(),
-        },
-        Order::ClearLine => {
-            s.counts = [0; 16];
-            Obeyed {
-                scales: s,
-                interrupter: i,
-            }
-        }
-        Order::VetoLine(on) => {
-            s.line = on;
-            Obeyed {
-                scales: s,
-                interrupter: i,
-            }
-        }
-        Order::ManClr => {
-            s.counts = [0; 16];
-            s.vme = false;
-            Obeyed {
-                scales: s,
-                interrupter: i.cleared(),
-            }
-        }
+        Order::ClearAccess => both(zero(scales), i.cleared()),
+        Order::VetoSet => both(veto(scales, true), i),
+        Order::VetoReset => both(veto(scales, false), i),
+        Order::Enable => both(scales, i.generating(true)),
+        Order::Disable => both(scales, i.generating(false)),
+        Order::RemoveRequest => both(scales, i.released()),
+        Order::ClearLine => both(zero(scales), i),
+        Order::VetoLine(on) => both(front(scales, on), i),
+        Order::ManClr => both(veto(zero(scales), false), i.cleared()),
+    }
+}
+
+// The scales zeroed.
+fn zero(mut scales: Scales) -> Scales
+    ensures { λ r. ⌜ r ≡ zeroed scales ⌝ }
+{
+    scales.counts = [0; 16];
+    scales
+}
+
+// The VME veto set or reset.
+fn veto(mut scales: Scales, on: bool) -> Scales
+    ensures { λ r. ⌜ r ≡ vetoed on scales ⌝ }
+{
+    scales.vme = on;
+    scales
+}
+
+// The front veto line on or off.
+fn front(mut scales: Scales, on: bool) -> Scales
+    ensures { λ r. ⌜ r ≡ lined on scales ⌝ }
+{
+    scales.line = on;
+    scales
+}
+
+// Scales and interrupter, side by side.
+fn both(scales: Scales, interrupter: Interrupter) -> Obeyed
+    ensures { λ r. ⌜ r ≡ both scales interrupter ⌝ }
+{
+    Obeyed {
+        scales,
+        interrupter,
     }
 }
