@@ -28,7 +28,7 @@ use Rattle.scaler.specs.declared.Order.the-variants as order
 use Rattle.scaler.specs.declared.Scales.{Scales}
 use Rattle.scaler.specs.Orders.{inhibited, counting}
 use Rattle.scaler.proofs.Admitted.{reaches, pulsesTo, admittedOf, clears, noClear}
-use Rattle.scaler.proofs.Clocks.{cond-same, and-false}
+use Rattle.bus.proofs.Choices.{cond-same, and-false}
 use Rattle.scaler.proofs.Counted.{Counted, counted-none, counted-then, counted-held, held, zero-parts, zero-held}
 use Rattle.scaler.proofs.Runs.{or-right, countsOf}
 

@@ -19,7 +19,7 @@ use Rattle.scaler.specs.declared.Call.{Call}
 use Rattle.scaler.specs.declared.Call.the-variants as call
 use Rattle.scaler.specs.declared.Order.{Order}
 use Rattle.scaler.specs.Orders.{inhibited}
-use Rattle.scaler.proofs.Clocks.{either-way}
+use Rattle.bus.proofs.Choices.{either-way}
 use Rattle.scaler.proofs.Fair.{Module}
 
 module _ {S O : Type 0} (m : Module S O) where

@@ -14,7 +14,7 @@ use Rattle.count.specs.Chain.{tickChain}
 use Rattle.count.proofs.Carry.{on-carry}
 use Rattle.bus.proofs.Places.{left-of, right-of}
 use Rattle.scaler.specs.Clock.{countOne, clocked}
-use Rattle.scaler.proofs.Clocks.{cond-same}
+use Rattle.bus.proofs.Choices.{cond-same}
 
 -- the counts of some channels, in their order
 abbrev pub countsOf : List ℕ → List ℕ → List ℕ

@@ -15,7 +15,7 @@ use Rattle.bus.proofs.Numbers.{Gives, unused}
 use Rattle.scaler.specs.declared.Call.{Call}
 use Rattle.scaler.specs.declared.Call.the-variants as call
 use Rattle.scaler.specs.Orders.{fresh, inhibited}
-use Rattle.scaler.proofs.Clocks.{either-way}
+use Rattle.bus.proofs.Choices.{either-way}
 use Rattle.scaler.proofs.Refusals.{Same, same-refused, same-done, Answering, refused-same, numberFor, number-is}
 use Rattle.v260.specs.declared.Switches.{Switches}
 use Rattle.v260.specs.declared.V260.{V260}

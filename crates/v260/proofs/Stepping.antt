@@ -14,7 +14,7 @@ use Rattle.bus.specs.declared.Answer.the-variants.{NoMeaning}
 use Rattle.bus.specs.declared.interrupter.Interrupter.{Interrupter}
 use Rattle.scaler.specs.declared.Order.the-variants as order
 use Rattle.scaler.specs.Orders.{inhibited}
-use Rattle.scaler.proofs.Clocks.{either-way}
+use Rattle.bus.proofs.Choices.{either-way}
 use Rattle.scaler.proofs.Fair.{Module, Scale, Fair, fair-cond, fair-refused, fair-inhibited, Own}
 use Rattle.scaler.proofs.Runs.{path, run-ticks, others-stay, length-clocked, single-ticks}
 use Rattle.v260.specs.declared.Switches.{Switches}

@@ -12,7 +12,7 @@ use Rattle.bus.specs.Answers.{numberOf}
 use Rattle.bus.proofs.Numbers.{Gives, unused}
 use Rattle.scaler.specs.declared.Call.{Call}
 use Rattle.scaler.specs.Orders.{inhibited}
-use Rattle.scaler.proofs.Clocks.{either-way}
+use Rattle.bus.proofs.Choices.{either-way}
 use Rattle.scaler.proofs.Refusals.{Same, same-refused, same-done, Answering, refused-same, numberFor, number-is}
 use Rattle.v560.specs.declared.V560.{V560}
 use Rattle.v560.specs.declared.Outcome.{Outcome}

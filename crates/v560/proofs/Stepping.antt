@@ -16,7 +16,7 @@ use Rattle.bus.specs.declared.interrupter.Interrupter.{Interrupter}
 use Rattle.bus.specs.Interrupting.{wellFormed}
 use Rattle.scaler.specs.declared.Order.the-variants as order
 use Rattle.bus.proofs.Places.{right-of}
-use Rattle.scaler.proofs.Clocks.{and-false, either-way}
+use Rattle.bus.proofs.Choices.{and-false, either-way}
 use Rattle.scaler.proofs.Fair.{Module, Scale, Fair, fair-refused, Own}
 use Rattle.scaler.proofs.Runs.{among, apart, countsOf, path, Run, run-ticks, others-stay, length-clocked}
 use Rattle.v560.specs.declared.V560.{V560}

@@ -36,7 +36,7 @@ perform-requires c κs =
     let w = l .before .before in
     let a = w .before .args in
     let h = right-of (wellFormed (a .i)) _ (sym (w .is-formed .ensures) ∙ not-false (w .is-formed .result) (l .before .if1 .left)) in
-    (rw (sym (l .look-up .ensures) ∙ c .before .row .given .1) at (places-narrow 16 0 registers (a .a) refl (omega arith)), h)
+    (rw (sym (l .look-up .ensures) ∙ c .before .row .given .1) at (places-narrow (λ _. 16) 0 registers (a .a) refl), h)
 
 returns-2 : tie.Need-returns-2
 returns-2 c =

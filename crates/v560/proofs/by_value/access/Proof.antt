@@ -36,7 +36,7 @@ perform-requires c κs =
     let w = l .before .before in
     let a = w .before .args in
     let h : a .i .level ≤ 7 = leb-true (a .i .level) 7 (sym (w .is-well-formed .ensures) ∙ not-false (w .is-well-formed .result) (l .before .if1 .left)) in
-    (rw (sym (l .look-up .ensures) ∙ c .before .row .given .1) at (places-narrow 16 0 registers (a .a) refl (omega arith)), omega arith)
+    (rw (sym (l .look-up .ensures) ∙ c .before .row .given .1) at (places-narrow (λ _. 16) 0 registers (a .a) refl), omega arith)
 
 returns-2 : tie.Need-returns-2
 returns-2 c =

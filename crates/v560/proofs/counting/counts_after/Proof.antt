@@ -7,7 +7,7 @@ use lib.Dec.{eqb}
 use Rattle.count.specs.declared.Ticked.{Ticked}
 use Rattle.bus.proofs.Places.{right-of}
 use Rattle.scaler.specs.Clock.{clocked}
-use Rattle.scaler.proofs.Clocks.{cond-same}
+use Rattle.bus.proofs.Choices.{cond-same}
 use Rattle.v560.specs.Counting.{isJoined, isLow}
 use borrow.Author.Tests.{not-true, not-false, eqb-true}
 use borrow.Author.Needs.{needs}

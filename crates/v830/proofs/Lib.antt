@@ -1,0 +1,12 @@
+pub mod Forming
+pub mod Rounds
+pub mod Taking
+pub mod RingLaws
+pub mod Modular
+pub mod Live
+pub mod Fairness
+pub mod Numbering
+pub mod AccountRuns
+pub mod Roles
+pub mod AccountBalances
+pub mod ReadsBack

@@ -1,0 +1,13 @@
+-- All is set anew. Assumes nothing.
+use borrow.Author.Needs.{needs}
+use Rattle.v830.proofs.counting.restarted.Statement.{statement}
+use Rattle.v830.proofs.counting.restarted.Tie as tie
+
+emptied-requires : tie.Need-emptied-requires
+emptied-requires c κs = search needs
+
+returns : tie.Need-returns
+returns c = rw (c .emptied .ensures)
+
+pub restarted-spec : {M : Type 1} → statement M
+restarted-spec = tie.close (tie.spec emptied-requires returns)

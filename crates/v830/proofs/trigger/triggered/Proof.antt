@@ -1,0 +1,88 @@
+-- 7, 8 and 9, each a test of the definition, else the event. Assumes nothing.
+use mathlib.Core.Path.{_≡_, refl, _∙_}
+use mathlib.Core.Bool.{true}
+use Prim.Native.Nat.{_-_}
+use native.Mathlib.Omega.{arith}
+use borrow.Author.Tests.{eq-eqb, ne-eqb, lt-ltb, lt-leb, le-leb}
+use lib.Dec.{eqb}
+use Rattle.layout.proofs.Lengths.{length-of}
+use Rattle.layout.specs.Length.{eventLength}
+use Rattle.v830.specs.State.{mode, settings}
+use Rattle.v830.proofs.Forming.{formed-facts}
+use borrow.Author.Needs.{needs}
+use Rattle.v830.proofs.trigger.triggered.Statement.{statement}
+use Rattle.v830.proofs.trigger.triggered.Tie as tie
+
+-- the mode is 1 where the trigger is not refused for it
+random : (c : tie.Else1) → eqb (mode (c .before .before .before .args .s .control)) 1 ≡ true
+random c = eq-eqb _ _ (rw (c .before .mode .ensures) at (c .if1 .left))
+
+-- the event length as the code has it
+event-is : (c : tie.After-event-length) → eventLength (settings (c .before .before .before .before .before .args .s)) ≡ c .event-length .result .0
+event-is c = length-of (settings (c .before .before .before .before .before .args .s)) (rw (c .before .settings .ensures) at (c .event-length .ensures))
+
+mode-requires : tie.Need-mode-requires
+mode-requires c κs = search needs
+
+refused-requires : tie.Need-refused-requires
+refused-requires c κs = search needs
+
+returns : tie.Need-returns
+returns c = rw (ne-eqb _ _ (rw (c .before .before .mode .ensures) at (c .before .if1 .taken))) (c .refused .ensures, refl)
+
+settings-requires : tie.Need-settings-requires
+settings-requires c κs = search needs
+
+event-length-requires : tie.Need-event-length-requires
+event-length-requires c κs = search needs
+
+refused-requires-2 : tie.Need-refused-requires-2
+refused-requires-2 c κs = search needs
+
+returns-2 : tie.Need-returns-2
+returns-2 c = rw (random (c .before .before .before .before .before), event-is (c .before .before .before) ∙ c .before .if2 .taken) (c .refused2 .ensures, refl)
+
+sub-if3 : tie.Need-sub-if3
+sub-if3 c = formed-facts _ (c .before .before .before .before .before .before .before .before .before .before .before .before .pre .0) .4
+
+refused-requires-3 : tie.Need-refused-requires-3
+refused-requires-3 c κs = search needs
+
+returns-3 : tie.Need-returns-3
+returns-3 c =
+    let s = c .before .before .before .before .before .before .before .before .before .before .before .before .before .before .before .args .s in
+    let e = event-is (c .before .before .before .before .before .before .before .before .before .before) in
+    rw (random (c .before .before .before .before .before .before .before .before .before .before .before .before), lt-ltb 0 (eventLength (settings s)) (omega (arith, e)), lt-leb (eventLength (settings s)) (s .store .capacity .0 - s .store .stored .0) (rw e (c .before .if3 .taken))) (c .refused3 .ensures, refl)
+
+accept-requires : tie.Need-accept-requires
+accept-requires c κs =
+    let p = c .before .before .before .before .before .before .before .before .before .before .before .before .before .before .before .pre in
+    let e = event-is (c .before .before .before .before .before .before .before .before .before .before) in
+    (p .0, p .1, p .2, omega (arith, e), omega (arith, e, formed-facts (c .before .before .before .before .before .before .before .before .before .before .before .before .before .before .before .args .s) (p .0) .4))
+
+same-length : tie.Need-same-length
+same-length c = search needs
+
+returns-4 : tie.Need-returns-4
+returns-4 c =
+    let s = c .before .before .before .before .before .before .before .before .before .before .before .before .before .before .before .before .before .before .args .s in
+    let e = event-is (c .before .before .before .before .before .before .before .before .before .before .before .before .before) in
+    rw (random (c .before .before .before .before .before .before .before .before .before .before .before .before .before .before .before), lt-ltb 0 (eventLength (settings s)) (omega (arith, e)), le-leb (eventLength (settings s)) (s .store .capacity .0 - s .store .stored .0) (rw e (c .before .before .before .before .if3 .left))) (c .before .before .accept .ensures)
+
+pub triggered-spec : {M : Type 1} → statement M
+triggered-spec =
+    tie.close
+    (tie.spec
+    mode-requires
+    refused-requires
+    returns
+    settings-requires
+    event-length-requires
+    refused-requires-2
+    returns-2
+    sub-if3
+    refused-requires-3
+    returns-3
+    accept-requires
+    same-length
+    returns-4)

@@ -1,0 +1,122 @@
+// The calls of a V830: the module given and handed back by value, its memory lent.
+ghost use mathlib.Core.Path.{_≡_};
+ghost use Rattle.v830.specs.Registers.{accessOf};
+ghost use Rattle.v830.specs.Calls.{pulsesOf, vetoOf, testOf, clearOf, triggerOf, manClrOf, stepOf};
+use crate::Call;
+use crate::Outcome;
+use crate::TABLE;
+use crate::V830;
+use crate::counting::cleared;
+use crate::counting::pulse_often;
+use crate::counting::tested;
+use crate::done;
+use crate::refused;
+use crate::registers::perform;
+use crate::state::is_formed;
+use crate::trigger::triggered;
+use bus::Access;
+use bus::Answer;
+use bus::table::Register;
+
+// Pulses on a channel's input.
+pub fn pulses(s: V830, channel: u32, n: u32) -> Outcome
+    ensures { λ r. ⌜ r ≡ pulsesOf s channel n ⌝ }
+{
+    if !is_formed(s) {
+        return refused(Answer::Malformed, s);
+    }
+    if channel > 31 {
+        return refused(Answer::NoChannel, s);
+    }
+    done(0, pulse_often(s, channel as usize, n))
+}
+
+// The VETO line, on or off.
+pub fn veto_line(s: V830, on: bool) -> Outcome
+    ensures { λ r. ⌜ r ≡ vetoOf s on ⌝ }
+{
+    if !is_formed(s) {
+        return refused(Answer::Malformed, s);
+    }
+    let mut state = s;
+    state.veto = on;
+    done(0, state)
+}
+
+// A pulse on the TEST line.
+pub fn test(s: V830) -> Outcome
+    ensures { λ r. ⌜ r ≡ testOf s ⌝ }
+{
+    if !is_formed(s) {
+        return refused(Answer::Malformed, s);
+    }
+    done(0, tested(s))
+}
+
+// A pulse on the CLEAR line.
+pub fn clear_line(s: V830) -> Outcome
+    ensures { λ r. ⌜ r ≡ clearOf s ⌝ }
+{
+    if !is_formed(s) {
+        return refused(Answer::Malformed, s);
+    }
+    done(0, cleared(s))
+}
+
+// A trigger by the line.
+pub fn trigger_line(s: V830, memory: &mut [u32]) -> Outcome
+    ensures { λ r. ⌜ (r ≡ triggerOf s (now (memory .entry)) .outcome) × (now (memory .exit) ≡ triggerOf s (now (memory .entry)) .memory) ⌝ }
+{
+    if !is_formed(s) {
+        return refused(Answer::Malformed, s);
+    }
+    let store = s.store;
+    let capacity = store.capacity;
+    if memory.len() != capacity.0 as usize {
+        return refused(Answer::WrongMemory, s);
+    }
+    triggered(1, s, memory)
+}
+
+// An access by VME.
+pub fn access(s: V830, memory: &mut [u32], a: Access) -> Outcome
+    ensures { λ r. ⌜ (r ≡ accessOf s (now (memory .entry)) a .outcome) × (now (memory .exit) ≡ accessOf s (now (memory .entry)) a .memory) ⌝ }
+{
+    if !is_formed(s) {
+        return refused(Answer::Malformed, s);
+    }
+    let store = s.store;
+    let capacity = store.capacity;
+    if memory.len() != capacity.0 as usize {
+        return refused(Answer::WrongMemory, s);
+    }
+    match bus::table::look_up(TABLE, a) {
+        Register::Refused(why) => refused(why, s),
+        Register::At(row, place) => perform(row, place, s, memory, a),
+    }
+}
+
+// Any call.
+pub fn step(s: V830, memory: &mut [u32], call: Call) -> Outcome
+    ensures { λ r. ⌜ (r ≡ stepOf s (now (memory .entry)) call .outcome) × (now (memory .exit) ≡ stepOf s (now (memory .entry)) call .memory) ⌝ }
+{
+    match call {
+        Call::Pulses(channel, n) => pulses(s, channel, n),
+        Call::VetoLine(on) => veto_line(s, on),
+        Call::Test => test(s),
+        Call::ClearLine => clear_line(s),
+        Call::TriggerLine => trigger_line(s, memory),
+        Call::Access(a) => access(s, memory, a),
+        Call::ManClr => man_clr(s),
+    }
+}
+
+// The button MAN CLR, which the module has not.
+fn man_clr(s: V830) -> Outcome
+    ensures { λ r. ⌜ r ≡ manClrOf s ⌝ }
+{
+    if !is_formed(s) {
+        return refused(Answer::Malformed, s);
+    }
+    refused(Answer::NoMeaning, s)
+}

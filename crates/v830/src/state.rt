@@ -1,0 +1,103 @@
+// What the registers of a V830 mean, and whether its record is one that there is.
+ghost use mathlib.Core.Path.{_≡_};
+ghost use Rattle.v830.specs.State.{isSet, mode, settings, storeFits, explained, formed, powerOn};
+use crate::Store;
+use crate::V830;
+use layout::Settings;
+use layout::Words;
+
+// A V830 as it is at power-on.
+pub(crate) fn power_on(geo: u32, capacity: u32) -> V830
+    ensures { λ r. ⌜ r ≡ powerOn geo capacity ⌝ }
+{
+    let store = Store {
+        capacity: Words(capacity),
+        first: 0,
+        stored: Words(0),
+    };
+    V830 {
+        counts: [0; 32],
+        enable: 4294967295,
+        control: 0,
+        triggers: 0,
+        veto: false,
+        geo,
+        store,
+    }
+}
+
+// Whether a bit of Control is set.
+pub(crate) fn is_set(bit: u32, control: u8) -> bool
+    ensures { λ r. ⌜ r ≡ isSet bit control ⌝ }
+{
+    if bit > 31 {
+        return false;
+    }
+    (control as u32 >> bit) % 2 == 1
+}
+
+// The mode: 0 disabled, 1 random, 2 periodical.
+pub(crate) fn mode(control: u8) -> u32
+    ensures { λ r. ⌜ r ≡ mode control ⌝ }
+{
+    control as u32 % 4
+}
+
+// The layout of the events that a module stores.
+pub(crate) fn settings(s: V830) -> Settings
+    ensures { λ r. ⌜ r ≡ settings s ⌝ }
+{
+    Settings {
+        header: is_set(5, s.control),
+        short: is_set(2, s.control),
+        enable: s.enable,
+    }
+}
+
+// Whether capacity, first place and stored words are within their bounds.
+fn store_fits(m: Store) -> bool
+    ensures { λ r. ⌜ r ≡ storeFits m ⌝ }
+{
+    let capacity = m.capacity;
+    let stored = m.stored;
+    if capacity.0 < 1 {
+        return false;
+    }
+    if capacity.0 > 32768 {
+        return false;
+    }
+    if m.first >= capacity.0 {
+        return false;
+    }
+    stored.0 <= capacity.0
+}
+
+// Whether the words stored can be those of events.
+fn is_explained(s: V830) -> bool
+    ensures { λ r. ⌜ r ≡ explained s ⌝ }
+{
+    let store = s.store;
+    let stored = store.stored;
+    if stored.0 == 0 {
+        return true;
+    }
+    let length = layout::event_length(settings(s));
+    length.0 != 0
+}
+
+// Whether a record is not malformed.
+pub(crate) fn is_formed(s: V830) -> bool
+    ensures { λ r. ⌜ r ≡ formed s ⌝ }
+{
+    if s.geo > 31 {
+        return false;
+    }
+    let store = s.store;
+    if !store_fits(store) {
+        return false;
+    }
+    if !is_explained(s) {
+        return false;
+    }
+    mode(s.control) != 3
+}
