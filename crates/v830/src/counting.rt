@@ -1,10 +1,12 @@
 // What pulses, TEST and CLEAR do to the counters.
 ghost use mathlib.Core.Path.{_≡_};
+ghost use mathlib.Core.List.{map};
 ghost use Prim.Native.Nat.{_<_};
-ghost use Rattle.count.specs.Counter.{iterate};
-ghost use Rattle.v830.specs.Counting.{pulse, tested, cleared, restarted};
+ghost use Rattle.count.specs.Counter.{next, iterate};
+ghost use Rattle.v830.specs.Counting.{counting, pulse, tested, cleared, restarted};
 use crate::V830;
 use crate::ring::emptied;
+use crate::ring::emptied_if;
 use crate::state::is_set;
 use count::Width;
 
@@ -37,28 +39,40 @@ pub(crate) fn pulse_often(s: V830, channel: usize, n: u32) -> V830
     state
 }
 
+// Every counter one further.
+fn ticked(counts: [u32; 32]) -> [u32; 32]
+    ensures { λ r. ⌜ r ≡ map (next 32) counts ⌝ }
+{
+    let mut counts = counts;
+    count::tick_each(Width::Bits32, &mut counts);
+    counts
+}
+
+// The module with other counts.
+fn counting(counts: [u32; 32], s: V830) -> V830
+    ensures { λ r. ⌜ r ≡ counting counts s ⌝ }
+{
+    let mut state = s;
+    state.counts = counts;
+    state
+}
+
 // A TEST pulse to every channel, which VETO does not stop.
 pub(crate) fn tested(s: V830) -> V830
     ensures { λ r. ⌜ r ≡ tested s ⌝ }
 {
-    let mut counts = s.counts;
-    count::tick_each(Width::Bits32, &mut counts);
-    let mut state = s;
-    state.counts = counts;
-    state
+    let counts = s.counts;
+    counting(ticked(counts), s)
 }
 
 // CLEAR, by line or register: the counters, and with bit 6 the memory.
 pub(crate) fn cleared(s: V830) -> V830
     ensures { λ r. ⌜ r ≡ cleared s ⌝ }
 {
+    let store = s.store;
     let mut state = s;
     state.counts = [0; 32];
-    if is_set(6, s.control) {
-        let store = s.store;
-        state.store = emptied(store);
-        return state;
-    }
+    state.store = emptied_if(is_set(6, s.control), store);
     state
 }
 

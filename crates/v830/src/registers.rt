@@ -12,6 +12,7 @@ use crate::counting::cleared;
 use crate::counting::restarted;
 use crate::done;
 use crate::refused;
+use crate::ring::oldest;
 use crate::ring::shorter;
 use crate::state::mode;
 use crate::state::power_on;
@@ -52,9 +53,10 @@ fn hand_out(s: V830, memory: &[u32]) -> Outcome
     if stored.0 == 0 {
         return refused(Answer::NothingStored, s);
     }
+    let at = oldest(store);
     let mut state = s;
     state.store = shorter(store);
-    done(memory[store.first as usize], state)
+    done(memory[at], state)
 }
 
 // A counter read: the live count.
@@ -96,10 +98,11 @@ fn control(s: V830, a: Access) -> Outcome
 fn controlled(result: u8, s: V830) -> Outcome
     ensures { λ r. ⌜ r ≡ controlled result s ⌝ }
 {
+    let after = restarted(result, s);
     if mode(result) == 3 {
         return refused(Answer::NoMeaning, s);
     }
-    done(0, restarted(result, s))
+    done(0, after)
 }
 
 // Software Reset: all but GEO, capacity and the VETO line as at power-on.

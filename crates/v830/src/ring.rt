@@ -1,5 +1,6 @@
 // The event memory, used round and round.
 ghost use mathlib.Core.Path.{_≡_};
+ghost use mathlib.Core.Bool.{cond};
 ghost use Prim.Native.Nat.{_+_, _%_, _<_, _≤_};
 ghost use lib.ListN.{length};
 ghost use Rattle.v830.specs.Memory.{emptied, longer, shorter, putRound};
@@ -16,6 +17,23 @@ pub(crate) fn emptied(m: Store) -> Store
         first: 0,
         stored: Words(0),
     }
+}
+
+// With no words stored where CLEAR empties the memory, else as it was.
+pub(crate) fn emptied_if(empties: bool, m: Store) -> Store
+    ensures { λ r. ⌜ r ≡ cond empties (emptied m) m ⌝ }
+{
+    if empties {
+        return emptied(m);
+    }
+    m
+}
+
+// The place of the oldest word.
+pub(crate) fn oldest(m: Store) -> usize
+    ensures { λ r. ⌜ r ≡ m .first ⌝ }
+{
+    m.first as usize
 }
 
 // With an event's words more.

@@ -12,11 +12,11 @@ refused-requires c κs = search needs
 returns : tie.Need-returns
 returns c = rw (le-ltb 0 (c .before .before .before .before .before .before .args .s .store .stored .0) (omega arith)) (c .refused .ensures)
 
-shorter-requires : tie.Need-shorter-requires
-shorter-requires c κs = let f = formed-facts _ (c .before .before .before .before .before .pre .0) in (omega arith, f .3, f .2)
+oldest-requires : tie.Need-oldest-requires
+oldest-requires c κs = search needs
 
-cast-done : tie.Need-cast-done
-cast-done c = search needs
+shorter-requires : tie.Need-shorter-requires
+shorter-requires c κs = let f = formed-facts _ (c .before .before .before .before .before .before .pre .0) in (omega arith, f .3, f .2)
 
 mul-done : tie.Need-mul-done
 mul-done c = search needs
@@ -24,13 +24,13 @@ mul-done c = search needs
 shared-slice-read-done : tie.Need-shared-slice-read-done
 shared-slice-read-done c =
     let p = c .before .before .before .before .before .before .before .before .pre in
-    let f = formed-facts _ (p .0) in omega (arith, f .3, p .1)
+    let f = formed-facts _ (p .0) in omega (arith, f .3, p .1, c .before .before .oldest .ensures)
 
 done-requires : tie.Need-done-requires
 done-requires c κs = search needs
 
 returns-2 : tie.Need-returns-2
-returns-2 c = rw (lt-ltb 0 (c .before .before .before .before .before .before .before .before .before .args .s .store .stored .0) (omega arith), ← c .before .before .before .shorter .ensures) (c .done .ensures)
+returns-2 c = rw (lt-ltb 0 (c .before .before .before .before .before .before .before .before .before .args .s .store .stored .0) (omega arith), ← c .before .before .shorter .ensures, ← c .before .before .before .oldest .ensures) (c .done .ensures)
 
 pub hand-out-spec : {M : Type 1} → statement M
 hand-out-spec =
@@ -38,8 +38,8 @@ hand-out-spec =
     (tie.spec
     refused-requires
     returns
+    oldest-requires
     shorter-requires
-    cast-done
     mul-done
     shared-slice-read-done
     done-requires

@@ -24,11 +24,11 @@ event-is c = length-of (settings (c .before .before .before .before .before .arg
 mode-requires : tie.Need-mode-requires
 mode-requires c κs = search needs
 
-refused-requires : tie.Need-refused-requires
-refused-requires c κs = search needs
+neglected-requires : tie.Need-neglected-requires
+neglected-requires c κs = search needs
 
 returns : tie.Need-returns
-returns c = rw (ne-eqb _ _ (rw (c .before .before .mode .ensures) at (c .before .if1 .taken))) (c .refused .ensures, refl)
+returns c = rw (ne-eqb _ _ (rw (c .before .before .mode .ensures) at (c .before .if1 .taken))) (c .neglected .ensures, refl)
 
 settings-requires : tie.Need-settings-requires
 settings-requires c κs = search needs
@@ -36,23 +36,23 @@ settings-requires c κs = search needs
 event-length-requires : tie.Need-event-length-requires
 event-length-requires c κs = search needs
 
-refused-requires-2 : tie.Need-refused-requires-2
-refused-requires-2 c κs = search needs
+neglected-requires-2 : tie.Need-neglected-requires-2
+neglected-requires-2 c κs = search needs
 
 returns-2 : tie.Need-returns-2
-returns-2 c = rw (random (c .before .before .before .before .before), event-is (c .before .before .before) ∙ c .before .if2 .taken) (c .refused2 .ensures, refl)
+returns-2 c = rw (random (c .before .before .before .before .before), event-is (c .before .before .before) ∙ c .before .if2 .taken) (c .neglected2 .ensures, refl)
 
 sub-if3 : tie.Need-sub-if3
 sub-if3 c = formed-facts _ (c .before .before .before .before .before .before .before .before .before .before .before .before .pre .0) .4
 
-refused-requires-3 : tie.Need-refused-requires-3
-refused-requires-3 c κs = search needs
+neglected-requires-3 : tie.Need-neglected-requires-3
+neglected-requires-3 c κs = search needs
 
 returns-3 : tie.Need-returns-3
 returns-3 c =
     let s = c .before .before .before .before .before .before .before .before .before .before .before .before .before .before .before .args .s in
     let e = event-is (c .before .before .before .before .before .before .before .before .before .before) in
-    rw (random (c .before .before .before .before .before .before .before .before .before .before .before .before), lt-ltb 0 (eventLength (settings s)) (omega (arith, e)), lt-leb (eventLength (settings s)) (s .store .capacity .0 - s .store .stored .0) (rw e (c .before .if3 .taken))) (c .refused3 .ensures, refl)
+    rw (random (c .before .before .before .before .before .before .before .before .before .before .before .before), lt-ltb 0 (eventLength (settings s)) (omega (arith, e)), lt-leb (eventLength (settings s)) (s .store .capacity .0 - s .store .stored .0) (rw e (c .before .if3 .taken))) (c .neglected3 .ensures, refl)
 
 accept-requires : tie.Need-accept-requires
 accept-requires c κs =
@@ -74,14 +74,14 @@ triggered-spec =
     tie.close
     (tie.spec
     mode-requires
-    refused-requires
+    neglected-requires
     returns
     settings-requires
     event-length-requires
-    refused-requires-2
+    neglected-requires-2
     returns-2
     sub-if3
-    refused-requires-3
+    neglected-requires-3
     returns-3
     accept-requires
     same-length
