@@ -1,5 +1,7 @@
 // The calls of a V830: the module given and handed back by value, its memory lent.
 ghost use mathlib.Core.Path.{_≡_};
+ghost use lib.Dec.{eqb};
+ghost use lib.ListN.{length};
 ghost use Rattle.v830.specs.Registers.{accessOf};
 ghost use Rattle.v830.specs.Calls.{pulsesOf, vetoOf, testOf, clearOf, triggerOf, manClrOf, stepOf};
 use crate::Call;
@@ -17,6 +19,15 @@ use crate::trigger::triggered;
 use bus::Access;
 use bus::Answer;
 use bus::table::Register;
+
+// Whether the memory that is lent has the length fixed at the start.
+fn has_length(s: V830, memory: &[u32]) -> bool
+    ensures { λ r. ⌜ r ≡ eqb (length (now (memory .entry))) (s .store .capacity .0) ⌝ }
+{
+    let store = s.store;
+    let capacity = store.capacity;
+    memory.len() == capacity.0 as usize
+}
 
 // Pulses on a channel's input.
 pub fn pulses(s: V830, channel: u32, n: u32) -> Outcome
@@ -70,9 +81,7 @@ pub fn trigger_line(s: V830, memory: &mut [u32]) -> Outcome
     if !is_formed(s) {
         return refused(Answer::Malformed, s);
     }
-    let store = s.store;
-    let capacity = store.capacity;
-    if memory.len() != capacity.0 as usize {
+    if !has_length(s, memory) {
         return refused(Answer::WrongMemory, s);
     }
     triggered(1, s, memory)
@@ -85,9 +94,7 @@ pub fn access(s: V830, memory: &mut [u32], a: Access) -> Outcome
     if !is_formed(s) {
         return refused(Answer::Malformed, s);
     }
-    let store = s.store;
-    let capacity = store.capacity;
-    if memory.len() != capacity.0 as usize {
+    if !has_length(s, memory) {
         return refused(Answer::WrongMemory, s);
     }
     match bus::table::look_up(TABLE, a) {

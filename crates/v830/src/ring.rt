@@ -31,6 +31,7 @@ pub(crate) fn emptied_if(empties: bool, m: Store) -> Store
 
 // The place of the oldest word.
 pub(crate) fn oldest(m: Store) -> usize
+    requires { ⌜ (0 < m .stored .0) × (m .first < m .capacity .0) × (m .stored .0 ≤ m .capacity .0) × (m .capacity .0 ≤ 32768) ⌝ }
     ensures { λ r. ⌜ r ≡ m .first ⌝ }
 {
     m.first as usize

@@ -1,13 +1,23 @@
 -- 12, then 10, then what the table says; a place that is reached lies within its row. Assumes nothing.
-use mathlib.Core.Path.{refl, sym, _∙_}
-use borrow.Author.Tests.{not-true, not-false, eq-eqb, ne-eqb}
-use mathlib.Core.Bool.{cond}
+use mathlib.Core.Path.{_≡_, refl, sym, _∙_}
+use mathlib.Core.Bool.{true, cond}
+use denote.Ref.{now}
 use lib.Dec.{eqb}
+use lib.ListN.{length}
+use borrow.Author.Tests.{not-true, not-false, eqb-true}
 use Rattle.bus.proofs.Places.{places-narrow}
 use Rattle.v830.specs.Registers.{registers}
+use Rattle.v830.specs.State.{formed}
 use borrow.Author.Needs.{needs}
 use Rattle.v830.proofs.calls.access.Statement.{statement}
 use Rattle.v830.proofs.calls.access.Tie as tie
+
+-- the module is formed behind the first test, and its memory lent behind the second
+formed-here : (c : tie.Else1) → formed (c .before .before .before .args .s) ≡ true
+formed-here c = sym (c .before .is-formed .ensures) ∙ not-false (c .before .is-formed .result) (c .if1 .left)
+
+lent-here : (c : tie.Else2) → eqb (length (now (c .before .before .before .before .before .before .args .memory))) (c .before .before .before .before .before .before .args .s .store .capacity .0) ≡ true
+lent-here c = sym (c .before .has-length .ensures) ∙ not-false (c .before .has-length .result) (c .if2 .left)
 
 is-formed-requires : tie.Need-is-formed-requires
 is-formed-requires c κs = search needs
@@ -18,14 +28,17 @@ refused-requires c κs = search needs
 returns : tie.Need-returns
 returns c = let f = c .before .before .is-formed in rw (sym (f .ensures) ∙ not-true (f .result) (c .before .if1 .taken)) (c .refused .ensures, refl)
 
-cast-if2 : tie.Need-cast-if2
-cast-if2 c = search needs
+has-length-requires : tie.Need-has-length-requires
+has-length-requires c κs = search needs
 
 refused-requires-2 : tie.Need-refused-requires-2
 refused-requires-2 c κs = search needs
 
+same-length : tie.Need-same-length
+same-length c = search needs
+
 returns-2 : tie.Need-returns-2
-returns-2 c = let f = c .before .before .before .before .before .before .is-formed in rw (sym (f .ensures) ∙ not-false (f .result) (c .before .before .before .before .before .if1 .left), ne-eqb _ _ (c .before .if2 .taken)) (c .refused2 .ensures, refl)
+returns-2 c = let h = c .before .before .has-length in rw (formed-here (c .before .before .before .before), sym (h .ensures) ∙ not-true (h .result) (c .before .if2 .taken)) (c .refused2 .ensures, refl)
 
 look-up-requires : tie.Need-look-up-requires
 look-up-requires c κs = search needs
@@ -41,18 +54,20 @@ enum-known-row c = search needs
 
 perform-requires : tie.Need-perform-requires
 perform-requires c κs =
-    let f = c .before .before .before .before .before .before .before .before .before .before .is-formed in
-    let place = rw (sym (c .before .before .before .before .look-up .ensures) ∙ c .before .before .row .given .1) at (places-narrow (λ at. cond (eqb at 1) 32 1024) 0 registers (c .before .before .before .before .before .before .before .before .before .before .before .before .args .a) refl) in
-    (sym (f .ensures) ∙ not-false (f .result) (c .before .before .before .before .before .before .before .before .before .if1 .left), c .before .before .before .before .before .if2 .left, place)
+    let place = rw (sym (c .before .before .before .before .look-up .ensures) ∙ c .before .before .row .given .1) at (places-narrow (λ at. cond (eqb at 1) 32 1024) 0 registers (c .before .before .before .before .before .before .before .before .before .before .before .args .a) refl) in
+    (formed-here (c .before .before .before .before .before .before .before .before), eqb-true _ _ (lent-here (c .before .before .before .before .before)), place)
+
+same-length-2 : tie.Need-same-length-2
+same-length-2 c = search needs
 
 returns-3 : tie.Need-returns-3
-returns-3 c = let f = c .before .before .before .before .before .before .before .before .before .before .is-formed in rw (sym (f .ensures) ∙ not-false (f .result) (c .before .before .before .before .before .before .before .before .before .if1 .left), eq-eqb _ _ (c .before .before .before .before .before .if2 .left), sym (c .before .before .before .before .look-up .ensures) ∙ c .before .before .why .given .1) (c .refused3 .ensures, refl)
+returns-3 c = rw (formed-here (c .before .before .before .before .before .before .before .before), lent-here (c .before .before .before .before .before), sym (c .before .before .before .before .look-up .ensures) ∙ c .before .before .why .given .1) (c .refused3 .ensures, refl)
 
-same-length : tie.Need-same-length
-same-length c = search needs
+same-length-3 : tie.Need-same-length-3
+same-length-3 c = search needs
 
 returns-4 : tie.Need-returns-4
-returns-4 c = let f = c .before .before .before .before .before .before .before .before .before .before .before .before .before .is-formed in rw (sym (f .ensures) ∙ not-false (f .result) (c .before .before .before .before .before .before .before .before .before .before .before .before .if1 .left), eq-eqb _ _ (c .before .before .before .before .before .before .before .before .if2 .left), sym (c .before .before .before .before .before .before .before .look-up .ensures) ∙ c .before .before .before .before .before .row .given .1) (c .before .before .perform .ensures)
+returns-4 c = rw (formed-here (c .before .before .before .before .before .before .before .before .before .before .before), lent-here (c .before .before .before .before .before .before .before .before), sym (c .before .before .before .before .before .before .before .look-up .ensures) ∙ c .before .before .before .before .before .row .given .1) (c .before .before .perform .ensures)
 
 pub access-spec : {M : Type 1} → statement M
 access-spec =
@@ -61,14 +76,16 @@ access-spec =
     is-formed-requires
     refused-requires
     returns
-    cast-if2
+    has-length-requires
     refused-requires-2
+    same-length
     returns-2
     look-up-requires
     enum-known-why
     refused-requires-3
     enum-known-row
     perform-requires
+    same-length-2
     returns-3
-    same-length
+    same-length-3
     returns-4)
