@@ -2,7 +2,8 @@
 ghost use mathlib.Core.Path.{_≡_};
 ghost use Rattle.scaler.specs.declared.Order.the-variants as order;
 ghost use Rattle.v560.specs.Counting.{pulsesOf, testOf};
-ghost use Rattle.v560.specs.Registers.{accessOf};
+ghost use Rattle.bus.specs.Table.{lookUp};
+ghost use Rattle.v560.specs.Registers.{registers, accessOf};
 ghost use Rattle.v560.specs.Calls.{orderOf, triggerOf, stepOf};
 use crate::Outcome;
 use crate::TABLE;
@@ -19,6 +20,13 @@ use bus::table::Register;
 use scaler::Call;
 use scaler::Order;
 
+// What an access reaches in the table.
+fn looked_up(a: Access) -> Register
+    ensures { λ r. ⌜ r ≡ lookUp 0 registers a ⌝ }
+{
+    bus::table::look_up(TABLE, a)
+}
+
 // An access by VME.
 pub fn access(s: V560, i: Interrupter, a: Access) -> Outcome
     ensures { λ r. ⌜ r ≡ accessOf s i a ⌝ }
@@ -26,7 +34,7 @@ pub fn access(s: V560, i: Interrupter, a: Access) -> Outcome
     if !i.is_well_formed() {
         return refused(Answer::Malformed, s, i);
     }
-    match bus::table::look_up(TABLE, a) {
+    match looked_up(a) {
         Register::Refused(why) => refused(why, s, i),
         Register::At(row, place) => perform(row, place, s, i, a),
     }

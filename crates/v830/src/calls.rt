@@ -2,7 +2,8 @@
 ghost use mathlib.Core.Path.{_≡_};
 ghost use lib.Dec.{eqb};
 ghost use lib.ListN.{length};
-ghost use Rattle.v830.specs.Registers.{accessOf};
+ghost use Rattle.bus.specs.Table.{lookUp};
+ghost use Rattle.v830.specs.Registers.{registers, accessOf};
 ghost use Rattle.v830.specs.Calls.{pulsesOf, vetoOf, testOf, clearOf, triggerOf, manClrOf, stepOf};
 use crate::Call;
 use crate::Outcome;
@@ -87,6 +88,13 @@ pub fn trigger_line(s: V830, memory: &mut [u32]) -> Outcome
     triggered(1, s, memory)
 }
 
+// What an access reaches in the table.
+fn looked_up(a: Access) -> Register
+    ensures { λ r. ⌜ r ≡ lookUp 0 registers a ⌝ }
+{
+    bus::table::look_up(TABLE, a)
+}
+
 // An access by VME.
 pub fn access(s: V830, memory: &mut [u32], a: Access) -> Outcome
     ensures { λ r. ⌜ (r ≡ accessOf s (now (memory .entry)) a .outcome) × (now (memory .exit) ≡ accessOf s (now (memory .entry)) a .memory) ⌝ }
@@ -97,7 +105,7 @@ pub fn access(s: V830, memory: &mut [u32], a: Access) -> Outcome
     if !has_length(s, memory) {
         return refused(Answer::WrongMemory, s);
     }
-    match bus::table::look_up(TABLE, a) {
+    match looked_up(a) {
         Register::Refused(why) => refused(why, s),
         Register::At(row, place) => perform(row, place, s, memory, a),
     }

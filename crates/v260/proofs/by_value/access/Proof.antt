@@ -18,8 +18,8 @@ refused-requires c κs = search needs
 returns : tie.Need-returns
 returns c = rw (sym (c .before .before .is-formed .ensures) ∙ not-true (c .before .before .is-formed .result) (c .before .if1 .taken)) (c .refused .ensures)
 
-look-up-requires : tie.Need-look-up-requires
-look-up-requires c κs = search needs
+looked-up-requires : tie.Need-looked-up-requires
+looked-up-requires c κs = search needs
 
 enum-known-why : tie.Need-enum-known-why
 enum-known-why c = search needs
@@ -36,17 +36,17 @@ perform-requires c κs =
     let w = l .before .before in
     let a = w .before .args in
     let h = right-of (wellFormed (a .i)) _ (sym (w .is-formed .ensures) ∙ not-false (w .is-formed .result) (l .before .if1 .left)) in
-    (rw (sym (l .look-up .ensures) ∙ c .before .row .given .1) at (places-narrow (λ _. 16) 0 registers (a .a) refl), h)
+    (rw (sym (l .looked-up .ensures) ∙ c .before .row .given .1) at (places-narrow (λ _. 16) 0 registers (a .a) refl), h)
 
 returns-2 : tie.Need-returns-2
 returns-2 c =
     let l = c .before .before .before .before in
-    rw (sym (l .before .before .is-formed .ensures) ∙ not-false (l .before .before .is-formed .result) (l .before .if1 .left), sym (l .look-up .ensures) ∙ c .before .before .why .given .1) (c .refused2 .ensures)
+    rw (sym (l .before .before .is-formed .ensures) ∙ not-false (l .before .before .is-formed .result) (l .before .if1 .left), sym (l .looked-up .ensures) ∙ c .before .before .why .given .1) (c .refused2 .ensures)
 
 returns-3 : tie.Need-returns-3
 returns-3 c =
     let l = c .before .before .before .before in
-    rw (sym (l .before .before .is-formed .ensures) ∙ not-false (l .before .before .is-formed .result) (l .before .if1 .left), sym (l .look-up .ensures) ∙ c .before .before .row .given .1) (c .perform .ensures)
+    rw (sym (l .before .before .is-formed .ensures) ∙ not-false (l .before .before .is-formed .result) (l .before .if1 .left), sym (l .looked-up .ensures) ∙ c .before .before .row .given .1) (c .perform .ensures)
 
 pub access-spec : {M : Type 1} → statement M
 access-spec =
@@ -55,7 +55,7 @@ access-spec =
     is-formed-requires
     refused-requires
     returns
-    look-up-requires
+    looked-up-requires
     enum-known-why
     refused-requires-2
     enum-known-row

@@ -40,8 +40,8 @@ same-length c = search needs
 returns-2 : tie.Need-returns-2
 returns-2 c = let h = c .before .before .has-length in rw (formed-here (c .before .before .before .before), sym (h .ensures) ∙ not-true (h .result) (c .before .if2 .taken)) (c .refused2 .ensures, refl)
 
-look-up-requires : tie.Need-look-up-requires
-look-up-requires c κs = search needs
+looked-up-requires : tie.Need-looked-up-requires
+looked-up-requires c κs = search needs
 
 enum-known-why : tie.Need-enum-known-why
 enum-known-why c = search needs
@@ -54,20 +54,20 @@ enum-known-row c = search needs
 
 perform-requires : tie.Need-perform-requires
 perform-requires c κs =
-    let place = rw (sym (c .before .before .before .before .look-up .ensures) ∙ c .before .before .row .given .1) at (places-narrow (λ at. cond (eqb at 1) 32 1024) 0 registers (c .before .before .before .before .before .before .before .before .before .before .before .args .a) refl) in
+    let place = rw (sym (c .before .before .before .before .looked-up .ensures) ∙ c .before .before .row .given .1) at (places-narrow (λ at. cond (eqb at 1) 32 1024) 0 registers (c .before .before .before .before .before .before .before .before .before .before .before .args .a) refl) in
     (formed-here (c .before .before .before .before .before .before .before .before), eqb-true _ _ (lent-here (c .before .before .before .before .before)), place)
 
 same-length-2 : tie.Need-same-length-2
 same-length-2 c = search needs
 
 returns-3 : tie.Need-returns-3
-returns-3 c = rw (formed-here (c .before .before .before .before .before .before .before .before), lent-here (c .before .before .before .before .before), sym (c .before .before .before .before .look-up .ensures) ∙ c .before .before .why .given .1) (c .refused3 .ensures, refl)
+returns-3 c = rw (formed-here (c .before .before .before .before .before .before .before .before), lent-here (c .before .before .before .before .before), sym (c .before .before .before .before .looked-up .ensures) ∙ c .before .before .why .given .1) (c .refused3 .ensures, refl)
 
 same-length-3 : tie.Need-same-length-3
 same-length-3 c = search needs
 
 returns-4 : tie.Need-returns-4
-returns-4 c = rw (formed-here (c .before .before .before .before .before .before .before .before .before .before .before), lent-here (c .before .before .before .before .before .before .before .before), sym (c .before .before .before .before .before .before .before .look-up .ensures) ∙ c .before .before .before .before .before .row .given .1) (c .before .before .perform .ensures)
+returns-4 c = rw (formed-here (c .before .before .before .before .before .before .before .before .before .before .before), lent-here (c .before .before .before .before .before .before .before .before), sym (c .before .before .before .before .before .before .before .looked-up .ensures) ∙ c .before .before .before .before .before .row .given .1) (c .before .before .perform .ensures)
 
 pub access-spec : {M : Type 1} → statement M
 access-spec =
@@ -80,7 +80,7 @@ access-spec =
     refused-requires-2
     same-length
     returns-2
-    look-up-requires
+    looked-up-requires
     enum-known-why
     refused-requires-3
     enum-known-row
