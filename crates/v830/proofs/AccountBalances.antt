@@ -7,7 +7,7 @@
 -- Over every list of calls, stated of the definitions that the contracts are equations with. What its words mean stands in specs/Account.antt. Carried by AccountRuns.
 -- Assumes nothing.
 use Prim.Native.Nat.{ℕ, _+_, _%_, _<_}
-use mathlib.Core.Path.{_≡_, refl, sym, ap, _∙_}
+use mathlib.Core.Path.{_≡_, sym, ap, _∙_}
 use mathlib.Core.Bool.{true, false}
 use mathlib.Core.List.{List, [], _++_}
 use native.Mathlib.Nat.{zero-add}
@@ -18,7 +18,7 @@ use Rattle.v830.specs.declared.Call.{Call}
 use Rattle.v830.specs.declared.Call.the-variants as call
 use Rattle.v830.specs.declared.V830.{V830}
 use Rattle.v830.specs.State.{mode, isSet}
-use Rattle.v830.specs.Memory.{storedWords, wordsRound}
+use Rattle.v830.specs.Memory.{storedWords}
 use Rattle.v830.specs.Outcomes.{Step}
 use Rattle.v830.specs.Calls.{stepOf}
 use Rattle.v830.specs.Account.{Made, triggers, writes, roleOf, isDone, Account, accountOf, wordsOf, AllRead, countsIn, live, modulus, goesOn, other, stays, each, Reason}

@@ -2,13 +2,13 @@
 -- live counter are what was live and what was admitted. By cases on the call and, of an access, on the row. Assumes nothing.
 use Prim.Native.Nat.{ℕ, _+_, _-_, _%_, _^_, _≤_, _<_}
 use mathlib.Core.Path.{_≡_, refl, sym, ap, _∙_}
-use mathlib.Core.Bool.{Bool, true, false, cond, _&&_, not, false≢true}
-use mathlib.Core.List.{List, [], _∷_, _++_, map, append-nil}
+use mathlib.Core.Bool.{Bool, true, false, cond, not, false≢true}
+use mathlib.Core.List.{List, [], _++_, append-nil}
 use native.Mathlib.Nat.{add-zero, zero-add, mod-lt}
 use native.Mathlib.Omega.{arith}
 use borrow.Author.Tests.{ltb-true, leb-true, eqb-true, not-true}
 use lib.Dec.{eqb, leb, ltb}
-use lib.ListN.{length, getD, replicate, getD-replicate, length-map}
+use lib.ListN.{length, getD, getD-replicate, length-map}
 use Rattle.bus.specs.declared.Access.{Access}
 use Rattle.bus.specs.declared.Answer.{Answer}
 use Rattle.bus.specs.declared.Answer.the-variants.{Malformed, WrongMemory, NoMeaning, NoChannel, NotRandom, NoWords, TooFewFree, NothingStored, WordsStored, NotInTable}
@@ -16,7 +16,7 @@ use Rattle.bus.specs.declared.table.Register.{Register}
 use Rattle.bus.specs.declared.table.Register.the-variants.{At, Refused}
 use Rattle.bus.specs.Table.{lookUp, byTable}
 use Rattle.bus.proofs.Choices.{either-way, both-ways, by-test}
-use Rattle.count.specs.Counter.{next, bit, iterate}
+use Rattle.count.specs.Counter.{next, iterate}
 use Rattle.layout.specs.declared.Stored.{Stored}
 use Rattle.layout.specs.declared.Stored.the-variants as stored
 use Rattle.layout.specs.Layout.{eventWords}
@@ -31,13 +31,13 @@ use Rattle.v830.specs.State.{mode, isSet, settings, zeros, formed}
 use Rattle.v830.specs.Memory.{storedWords, putRound, longer}
 use Rattle.v830.specs.Outcomes.{Step, kept, refused, done, lent}
 use Rattle.v830.specs.Counting.{pulse, tested, cleared, vetoed}
-use Rattle.v830.specs.Trigger.{takenAt, eventOf, accepted, triggered}
-use Rattle.v830.specs.Registers.{registers, handedOut, enabling, enableFor, controlled, controlFor, withBits, withoutBits, reset, eventsRead, eventNumber, performed}
+use Rattle.v830.specs.Trigger.{eventOf, accepted, triggered}
+use Rattle.v830.specs.Registers.{registers, handedOut, enabling, enableFor, controlled, controlFor, withBits, withoutBits, reset, eventsRead, performed}
 use Rattle.v830.specs.Calls.{stepOf}
 use Rattle.v830.specs.Account.{Made, made, lending, lendingAnother, Role, reads, triggers, writes, clears, none, roleAt, roleOf, callOf, isDone, handedBy, acceptedBy, admittedBy, wordsOf, AllRead, countsIn, live, enabled, modulus, endsWith, goesOn, other}
 use Rattle.v830.proofs.Forming.{formed-facts}
-use Rattle.v830.proofs.Live.{Still, still-pulses, pulses-live, taken-of, map-of}
-use Rattle.v830.proofs.Modular.{widthOf, next-mod, taken-mod}
+use Rattle.v830.proofs.Live.{still-pulses, pulses-live, taken-of, map-of}
+use Rattle.v830.proofs.Modular.{next-mod, taken-mod}
 use Rattle.v830.proofs.ReadsBack.{event-reads-back}
 use Rattle.v830.proofs.RingLaws.{stored-after-trigger, stored-after-read}
 

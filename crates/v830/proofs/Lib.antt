@@ -10,3 +10,4 @@ pub mod AccountRuns
 pub mod Roles
 pub mod AccountBalances
 pub mod ReadsBack
+pub mod Reckoned

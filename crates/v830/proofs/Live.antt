@@ -11,7 +11,6 @@ use lib.ListN.{length, getD, set, length-set}
 use lib.Pow.{shr-shr}
 use lib.Seq.{getD-set-same, getD-set-other}
 use Rattle.count.specs.Counter.{next, bit, iterate}
-use Rattle.v830.specs.declared.Store.{Store}
 use Rattle.v830.specs.declared.V830.{V830}
 use Rattle.v830.specs.Account.{live}
 use Rattle.v830.specs.Counting.{counting, pulse}

@@ -1,14 +1,14 @@
 -- T1, demand 1, for the V830: a call that is refused leaves the module and every lent word as they were, with the value 0; and each number is given exactly when its line of
 -- document 01 holds and no earlier one of the order 12, 10, 1, 2, 3, 11, 4, 6, 5, 7, 8, 9 does. Assumes nothing.
 use Prim.Native.Nat.{ℕ, _-_, _%_}
-use mathlib.Core.Path.{_≡_, refl, sym, ap, _∙_}
+use mathlib.Core.Path.{_≡_, refl, sym, _∙_}
 use mathlib.Core.Bool.{Bool, true, false, cond, _&&_, _||_, not, false≢true}
 use mathlib.Core.List.{List}
 use lib.Dec.{eqb, leb, ltb}
 use lib.ListN.{length}
 use Rattle.bus.specs.declared.Access.{Access}
 use Rattle.bus.specs.declared.Answer.{Answer}
-use Rattle.bus.specs.declared.Answer.the-variants.{Done, NotInTable, NoMeaning, NoChannel, Malformed, WrongMemory, NotRandom, NoWords, TooFewFree, NothingStored, WordsStored}
+use Rattle.bus.specs.declared.Answer.the-variants.{NotInTable, NoMeaning, NoChannel, Malformed, WrongMemory, NotRandom, NoWords, TooFewFree, NothingStored, WordsStored}
 use Rattle.bus.specs.declared.table.Register.{Register}
 use Rattle.bus.specs.declared.table.Register.the-variants.{At, Refused}
 use Rattle.bus.specs.Answers.{numberOf, valueOf}
@@ -26,7 +26,7 @@ use Rattle.v830.specs.declared.V830.{V830}
 use Rattle.v830.specs.State.{mode, settings, storeFits, explained, formed, powerOn}
 use Rattle.v830.specs.Outcomes.{Step, kept, refused, done, lent, started}
 use Rattle.v830.specs.Trigger.{accepted, triggered}
-use Rattle.v830.specs.Registers.{registers, handedOut, enableFor, controlled, controlFor, withBits, withoutBits, eventsRead, performed}
+use Rattle.v830.specs.Registers.{registers, enableFor, controlFor, withBits, withoutBits, eventsRead, performed}
 use Rattle.v830.specs.Calls.{stepOf}
 
 module _ (s : V830) (memory : List ℕ) where
