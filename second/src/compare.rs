@@ -49,7 +49,8 @@ pub fn first_difference(all_own: &[u8], theirs: &[u8]) -> Option<Difference> {
     }
 }
 
-/// The name of the first number in which two lines of numbers differ, if the first line names it.
+/// The name of the first number in which two lines of numbers differ, if the first line names it,
+/// or the place of a memory's first differing word.
 fn column_of(listing: &[u8], line: usize, own: &str, theirs: &str) -> Option<String> {
     let title = listing.split(|byte| *byte == b'\n').next()?;
     let names: Vec<_> = title.split(|byte| *byte == b' ').collect();
@@ -61,6 +62,9 @@ fn column_of(listing: &[u8], line: usize, own: &str, theirs: &str) -> Option<Str
     };
     let named = !numbers(&title.escape_ascii().to_string());
     let at = pairs.clone().position(|(own, theirs)| own != theirs)?;
+    if [own, theirs].iter().all(|text| text.starts_with("memory ")) {
+        return Some(format!("the memory's word at place {}", at - 1));
+    }
     let name = names.get(at)?.escape_ascii().to_string();
     Some(name).filter(|_| line > 0 && named && numbers(own) && numbers(theirs))
 }
@@ -147,5 +151,9 @@ mod tests {
         assert_eq!(column(own, "entry answer value\n"), None);
         assert_eq!(column(own, "entry answer\n0 0 5\n"), None);
         assert_eq!(column("0 1\n7 2\n", "0 1\n7 3\n"), None);
+        assert_eq!(
+            column("entry\nmemory 1 2 3\n", "entry\nmemory 1 2 4\n"),
+            Some("the memory's word at place 2".to_string())
+        );
     }
 }

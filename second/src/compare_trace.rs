@@ -1,5 +1,6 @@
-//! `compare trace`: logs for a V260 or a V560, each in a run of COMMAND of its own.
+//! `compare trace`: logs for a V260, a V560 or a V830, each in a run of COMMAND of its own.
 
+use crate::books::Books;
 use crate::compare::Verdict;
 use crate::fixed_traces::fixed_traces;
 use crate::long_traces::long_traces;
@@ -10,10 +11,13 @@ use crate::runs::{compare_parts, Counted, Part};
 use crate::shrink::Smaller;
 use crate::shrink_trace::smaller_traces;
 use crate::tally::{shown_together, Row};
-use crate::trace_listing::{entries_from, own_trace, read_head, HeadSwitches};
+use crate::trace_head::{read_head, HeadSwitches};
+use crate::trace_listing::{entries_from, own_trace};
 use crate::trace_tally::ModuleTally;
+use crate::v830_tally::V830Tally;
 
-/// The number of random whole runs of each module unless another is asked for.
+/// The number of random whole runs of each module unless another is asked for; of the V830 half as
+/// many again are made.
 pub const DEFAULT_RUNS: usize = 1_200;
 
 /// The faults of heads and of logs.
@@ -24,6 +28,7 @@ pub struct TraceTally {
     entries: usize,
     v260: ModuleTally,
     v560: ModuleTally,
+    v830: V830Tally,
     head_faults: Row<u32>,
     log_faults: Row<u32>,
     logs: Row<&'static str>,
@@ -36,6 +41,7 @@ impl Default for TraceTally {
             entries: 0,
             v260: ModuleTally::of_260(),
             v560: ModuleTally::of_560(),
+            v830: V830Tally::default(),
             head_faults: Row::new("faults of heads", FAULTS),
             log_faults: Row::new("faults of logs", FAULTS),
             logs: Row::new("logs", ["empty", "60 entries or more", "with less"]),
@@ -59,6 +65,7 @@ impl Counted for TraceTally {
         match head.switches {
             HeadSwitches::V260(_) => self.v260.add_run(&head, calls),
             HeadSwitches::V560(_) => self.v560.add_run(&head, calls),
+            HeadSwitches::V830(_) => self.v830.add_run(&head, calls),
         }
         self.logs.add(match entries.len() {
             0 => "empty",
@@ -80,6 +87,7 @@ impl Counted for TraceTally {
         shown_together([
             self.v260.shown(),
             self.v560.shown(),
+            self.v830.shown(),
             self.head_faults.shown(),
             self.log_faults.shown(),
             self.logs.shown(),
@@ -87,7 +95,8 @@ impl Counted for TraceTally {
     }
 }
 
-/// Compares COMMAND's `trace` listing of every input with this program's own.
+/// Compares COMMAND's `trace` listing of every input with this program's own, and enters those of a
+/// V830 in the ledger's books.
 pub fn compare_trace(program: &Program, seed: u64, cases: usize) -> Verdict {
     let part = |name, inputs, complete| Part {
         name,
@@ -99,5 +108,12 @@ pub fn compare_trace(program: &Program, seed: u64, cases: usize) -> Verdict {
         part("long", long_traces(seed), false),
         part("random", make_traces(seed, cases), true),
     ];
-    compare_parts::<TraceTally>(program, seed, &own_trace, &parts)
+    let books = Books::default();
+    let entered = |input: &[u8], most: usize| {
+        let listing = program(input, most)?;
+        books.enter(input, &listing);
+        Ok(listing)
+    };
+    let verdict = compare_parts::<TraceTally>(&entered, seed, &own_trace, &parts);
+    books.judge(verdict)
 }

@@ -2,12 +2,13 @@
 
 use crate::break_heads::{every_broken_head, every_cut_head, numbers_bytes, two_faults};
 use crate::compare_entries::ENDS;
-use crate::make_traces::{LIMITS_260, LIMITS_560, OTHER_MODULES};
+use crate::fixed_v830_traces::fixed_v830_traces;
+use crate::make_traces::OTHER_MODULES;
 use crate::module::Call::{self, *};
 use crate::runs::Input;
 use crate::scaler::CHANNELS;
 use crate::shrink_trace::input_of;
-use crate::trace_listing::{Head, HeadSwitches};
+use crate::trace_head::{Head, HeadSwitches};
 use crate::trace_scripts::{scripts, ARMED, REMOVAL};
 use crate::v260::ALL_ONES_24;
 
@@ -20,7 +21,7 @@ const BELOW_31: u32 = 0x7FFF_FFFF;
 pub fn v260(switches: [u32; 4], counts: [u32; CHANNELS]) -> Head {
     Head {
         switches: HeadSwitches::V260(switches),
-        counts,
+        counts: counts.to_vec(),
     }
 }
 
@@ -28,7 +29,7 @@ pub fn v260(switches: [u32; 4], counts: [u32; CHANNELS]) -> Head {
 pub fn v560(joined: u32, counts: [u32; CHANNELS]) -> Head {
     Head {
         switches: HeadSwitches::V560([joined]),
-        counts,
+        counts: counts.to_vec(),
     }
 }
 
@@ -50,7 +51,7 @@ fn counts_from(first: usize, few: &[u32]) -> [u32; CHANNELS] {
     counts
 }
 
-/// The marked cases of document 01 that are about counting.
+/// The marked cases of document 01 that are about counting in a V260 or a V560.
 pub fn marked() -> [(&'static str, Head, Vec<Call>); 3] {
     [
         (
@@ -140,16 +141,13 @@ pub fn fixed_traces() -> Vec<Input> {
     }
     add_depths(&mut inputs);
     add_refusals(&mut inputs);
+    inputs.extend(fixed_v830_traces());
     inputs
 }
 
 /// Heads cut and broken at every number, and those of other modules.
-fn add_heads(module: &str, head: &Head, inputs: &mut Vec<Input>) {
-    let limits: &[(usize, u32)] = match head.switches {
-        HeadSwitches::V260(_) => &LIMITS_260,
-        HeadSwitches::V560(_) => &LIMITS_560,
-    };
-    let numbers = head.numbers();
+pub fn add_heads(module: &str, head: &Head, inputs: &mut Vec<Input>) {
+    let (numbers, limits) = (head.numbers(), head.limits());
     let mut heads = every_cut_head(&numbers);
     heads.extend(every_broken_head(&numbers, limits));
     heads.extend(two_faults(&numbers, limits));
@@ -163,7 +161,7 @@ fn add_heads(module: &str, head: &Head, inputs: &mut Vec<Input>) {
 }
 
 /// Logs that end in each fault, at once or behind a few entries.
-fn add_ends(module: &str, head: &Head, inputs: &mut Vec<Input>) {
+pub fn add_ends(module: &str, head: &Head, inputs: &mut Vec<Input>) {
     for end in ENDS {
         for calls in [&[][..], &[Pulses(0, 1), Read(0x10, 16), Test]] {
             let name = format!("{}, the end {:02X?}", module, end);

@@ -33,12 +33,27 @@ pub fn put_numbers(listing: &mut String, numbers: &[u32]) {
         if position > 0 {
             listing.push(' ');
         }
-        match number {
-            0 => listing.push('0'),
-            _ => write!(listing, "{}", number).expect("a String takes every line"),
-        }
+        put_number(listing, *number);
     }
     listing.push('\n');
+}
+
+/// Adds a name and numbers, each behind a single blank, as a line.
+pub fn put_words(listing: &mut String, name: &str, numbers: &[u32]) {
+    *listing += name;
+    for number in numbers {
+        listing.push(' ');
+        put_number(listing, *number);
+    }
+    listing.push('\n');
+}
+
+/// Adds a number.
+fn put_number(listing: &mut String, number: u32) {
+    match number {
+        0 => listing.push('0'),
+        _ => write!(listing, "{}", number).expect("a String takes every line"),
+    }
 }
 
 #[cfg(test)]
@@ -69,6 +84,11 @@ mod tests {
         put_numbers(&mut listing, &[7, 0, u32::MAX]);
         put_numbers(&mut listing, &[]);
         put_fault(&mut listing, 30, 12);
-        assert_eq!(listing, "7 0 4294967295\n\nfault 30 12\n");
+        put_words(&mut listing, "memory", &[1, 0]);
+        put_words(&mut listing, "memory", &[]);
+        assert_eq!(
+            listing,
+            "7 0 4294967295\n\nfault 30 12\nmemory 1 0\nmemory\n"
+        );
     }
 }

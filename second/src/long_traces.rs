@@ -4,20 +4,21 @@ use crate::make_traces::{make_calls, HEAD_MAKERS};
 use crate::module::Call;
 use crate::rng::Rng;
 use crate::runs::Input;
-use crate::scaler::CHANNELS;
-use crate::trace_listing::{Head, HeadSwitches};
+use crate::shrink_trace::input_of;
+use crate::trace_head::{Head, HeadSwitches};
+use crate::v830_scripts::{set_up, MEMORY, NUMBER, SOFTWARE_TRIGGER, TRIGGERS};
 
 /// What a program may well read at a time.
 const EDGE: usize = 65_536;
 
-/// The longest entry there is, of ten bytes, and what it asks of either module.
+/// The longest entry there is, of ten bytes, and what it asks of any module.
 const LONGEST: Call = Call::Write(65_535, 32, u32::MAX);
 
 /// All long inputs, from the seed.
 pub fn long_traces(seed: u64) -> Vec<Input> {
     let mut rng = Rng::new(seed);
     let mut inputs = Vec::new();
-    for (module, _) in HEAD_MAKERS {
+    for (module, ..) in HEAD_MAKERS {
         for shift in 0..LONGEST.bytes().len() {
             let name = format!("{}, the longest entries, shifted by {}", module, shift);
             inputs.push(Input::new(name, shifted(module, shift)));
@@ -31,16 +32,62 @@ pub fn long_traces(seed: u64) -> Vec<Input> {
         let bytes = joined_runs(&mut rng, module, 2 * EDGE + 1_000);
         inputs.push(Input::new(format!("{}, over two edges", module), bytes));
     }
+    inputs.push(Input::new("V830, 66,000 triggers", many_triggers()));
+    for (name, enable, control) in [("33 words", u32::MAX, 0xA1), ("one word", 1 << 17, 0x01)] {
+        let name = format!("V830, the largest memory full of events of {}", name);
+        inputs.push(Input::new(name, largest_memory(enable, control)));
+    }
     inputs
+}
+
+/// The largest memory filled with events until one is refused, read a little, and filled again over
+/// its end.
+fn largest_memory(enable: u32, control: u32) -> Vec<u8> {
+    let head = Head {
+        switches: HeadSwitches::V830([3, 32_768]),
+        counts: vec![1; 32],
+    };
+    let mut calls = set_up(enable, control);
+    let length = enable.count_ones() + u32::from(control & 0x20 != 0);
+    for turn in 0..=32_768 / length {
+        if turn % 8 == 0 {
+            calls.push(Call::Pulses(17, turn % 300));
+        }
+        calls.push(Call::Trigger);
+    }
+    calls.push(NUMBER);
+    calls.extend((0..2 * length + 9).map(|_| MEMORY));
+    calls.extend([NUMBER, Call::Test, SOFTWARE_TRIGGER, Call::Test]);
+    calls.extend([SOFTWARE_TRIGGER, SOFTWARE_TRIGGER, NUMBER, MEMORY]);
+    input_of(&head, &calls, &[])
+}
+
+/// More accepted triggers than 16 bits count, by line and by register in turn, each an event of one
+/// word, its header. All is read before the memory is full, and all are one stretch of the ledger.
+fn many_triggers() -> Vec<u8> {
+    let head = Head {
+        switches: HeadSwitches::V830([13, 7]),
+        counts: vec![1; 32],
+    };
+    let mut calls = set_up(0, 0xA1);
+    for turn in 0..66_000 {
+        calls.push([Call::Trigger, SOFTWARE_TRIGGER][turn % 2]);
+        if turn % 5 == 4 {
+            calls.extend([MEMORY; 5]);
+        }
+    }
+    calls.extend([Call::Trigger, SOFTWARE_TRIGGER, TRIGGERS, NUMBER, MEMORY]);
+    input_of(&head, &calls, &[])
 }
 
 /// A head of this module whose start is accepted, with counts that pulses soon bring far.
 fn plain_head(module: &str) -> Head {
-    let (switches, all_ones) = match module {
-        "V260" => (HeadSwitches::V260([0x0030, 0xFFFF, 1, 5]), 0xFF_FFFF),
-        _ => (HeadSwitches::V560([0x06]), u32::MAX),
+    let (switches, channels, all_ones) = match module {
+        "V260" => (HeadSwitches::V260([0x0030, 0xFFFF, 1, 5]), 16, 0xFF_FFFF),
+        "V560" => (HeadSwitches::V560([0x06]), 16, u32::MAX),
+        _ => (HeadSwitches::V830([21, 50]), 32, u32::MAX),
     };
-    let mut counts = [all_ones; CHANNELS];
+    let mut counts = vec![all_ones; channels];
     counts[5] = all_ones / 2 - 100;
     counts[9] = all_ones / 2 - 100;
     Head { switches, counts }
@@ -53,7 +100,7 @@ fn shifted(module: &str, shift: usize) -> Vec<u8> {
     while bytes.len() < EDGE + 100 {
         bytes.extend(LONGEST.bytes());
     }
-    for channel in 0..CHANNELS as u32 {
+    for channel in 0..16 {
         bytes.extend(Call::Pulses(channel, 150).bytes());
     }
     bytes
@@ -74,11 +121,12 @@ fn joined_runs(rng: &mut Rng, module: &str, length: usize) -> Vec<u8> {
 #[cfg(test)]
 mod tests {
     use super::*;
-    use crate::trace_listing::{entries_from, read_head};
+    use crate::trace_head::read_head;
+    use crate::trace_listing::entries_from;
 
     #[test]
     fn every_byte_of_an_entry_meets_the_edge() {
-        for (module, _) in HEAD_MAKERS {
+        for (module, ..) in HEAD_MAKERS {
             let mut met = [false; 10];
             for shift in 0..10 {
                 let bytes = shifted(module, shift);

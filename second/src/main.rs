@@ -5,6 +5,7 @@
 
 mod block;
 mod blocks_listing;
+mod books;
 mod break_events;
 mod break_heads;
 mod case;
@@ -19,7 +20,9 @@ mod fixed_blocks;
 mod fixed_cases;
 mod fixed_requests;
 mod fixed_traces;
+mod fixed_v830_traces;
 mod head;
+mod ledger;
 mod log;
 mod log_listing;
 mod long_blocks;
@@ -33,8 +36,12 @@ mod make_requests;
 mod make_trace_calls;
 mod make_trace_heads;
 mod make_traces;
+mod make_v830_calls;
+mod make_v830_heads;
 mod makeblock_listing;
 mod module;
+mod own_module;
+mod printed;
 mod registers;
 mod rng;
 mod run;
@@ -43,13 +50,19 @@ mod scaler;
 mod shrink;
 mod shrink_trace;
 mod tally;
+mod trace_head;
 mod trace_listing;
 mod trace_scripts;
 mod trace_tally;
 mod use_words;
 mod v260;
 mod v560;
+mod v830;
+mod v830_scripts;
+mod v830_tally;
 
+#[cfg(test)]
+mod v830_cases;
 #[cfg(test)]
 mod wrong_accesses;
 #[cfg(test)]
@@ -68,6 +81,14 @@ mod wrong_slips;
 mod wrong_trace_listings;
 #[cfg(test)]
 mod wrong_traces;
+#[cfg(test)]
+mod wrong_v830;
+#[cfg(test)]
+mod wrong_v830_slips;
+#[cfg(test)]
+mod wrong_v830_store;
+#[cfg(test)]
+mod wrong_v830_traces;
 
 use std::io::{self, Read, Write};
 use std::process::ExitCode;

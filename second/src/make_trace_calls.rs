@@ -91,7 +91,7 @@ pub fn next_calls(rng: &mut Rng, profile: Profile, module: &dyn Scaler) -> Vec<C
 }
 
 /// How many pulses: none, one, few or some hundreds.
-fn how_many(rng: &mut Rng) -> u32 {
+pub fn how_many(rng: &mut Rng) -> u32 {
     match rng.below(8) {
         0 => 0,
         1 | 2 => 1,
@@ -297,7 +297,7 @@ fn latching(rng: &mut Rng, module: &dyn Scaler) -> Vec<Call> {
 }
 
 /// An access of any width and direction at this offset.
-fn access_at(rng: &mut Rng, offset: u32) -> Vec<Call> {
+pub fn access_at(rng: &mut Rng, offset: u32) -> Vec<Call> {
     let width = rng.pick(&[16, 32]);
     let data = match width {
         16 => any_half_word(rng),

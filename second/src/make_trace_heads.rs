@@ -2,7 +2,7 @@
 
 use crate::rng::Rng;
 use crate::scaler::CHANNELS;
-use crate::trace_listing::{Head, HeadSwitches};
+use crate::trace_head::{Head, HeadSwitches};
 use crate::v260::ALL_ONES_24;
 
 /// Every shape of joins of a V260, and of a V560.
@@ -89,7 +89,7 @@ fn any_level(rng: &mut Rng) -> u32 {
 }
 
 /// How far before an event a count stands: not at all, a little, or some hundreds.
-fn any_distance(rng: &mut Rng) -> u32 {
+pub fn any_distance(rng: &mut Rng) -> u32 {
     match rng.below(4) {
         0 => 0,
         1 => rng.below(4) as u32,
@@ -174,6 +174,7 @@ pub fn head_260(rng: &mut Rng) -> Head {
     }
     let (interrupts, jumpers) = (any_mask(rng, 0xFFFF), rng.below(4) as u32);
     let switches = HeadSwitches::V260([joined, interrupts, jumpers, any_level(rng)]);
+    let counts = counts.to_vec();
     Head { switches, counts }
 }
 
@@ -185,6 +186,7 @@ pub fn head_560(rng: &mut Rng) -> Head {
         _ => any_counts(rng, u32::MAX),
     };
     let switches = HeadSwitches::V560([any_joins_560(rng)]);
+    let counts = counts.to_vec();
     Head { switches, counts }
 }
 

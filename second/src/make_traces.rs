@@ -6,11 +6,14 @@ use crate::make_logs::damage;
 use crate::make_numbers::{any_value, shortest};
 use crate::make_trace_calls::{arming, next_calls, MOST_PULSES, PROFILES};
 use crate::make_trace_heads::{head_260, head_560};
+use crate::make_v830_calls::{next_calls_830, setting_up, PROFILES_830};
+use crate::make_v830_heads::head_830;
 use crate::module::{Call, Module};
+use crate::own_module::{own_start, Own};
 use crate::rng::Rng;
 use crate::runs::Input;
-use crate::scaler::CHANNELS;
-use crate::trace_listing::{entries_from, own_start, read_head, Head, HeadSwitches};
+use crate::trace_head::{read_head, Head};
+use crate::trace_listing::entries_from;
 
 /// The fewest and the most entries that a whole run has, but for the few that belong together.
 const FEWEST_ENTRIES: usize = 60;
@@ -19,16 +22,18 @@ const MOST_ENTRIES: usize = 120;
 /// Of so many whole runs there is one broken input besides.
 const WHOLE_TO_BROKEN: usize = 4;
 
-/// A maker of heads, and the name of its module.
+/// A maker of heads.
 type HeadMaker = fn(&mut Rng) -> Head;
-pub const HEAD_MAKERS: [(&str, HeadMaker); 2] = [("V260", head_260), ("V560", head_560)];
 
-/// The positions in a head and the largest values of its limited numbers.
-pub const LIMITS_260: [(usize, u32); 3] = [(1, 0xFFFF), (2, 0xFFFF), (3, 3)];
-pub const LIMITS_560: [(usize, u32); 1] = [(1, 0xFF)];
+/// The name of a module, its maker of heads, and for each two runs asked for how many are made.
+pub const HEAD_MAKERS: [(&str, HeadMaker, usize); 3] = [
+    ("V260", head_260, 2),
+    ("V560", head_560, 2),
+    ("V830", head_830, 3),
+];
 
-/// Module numbers that are neither 260 nor 560, some of them so once cut to fewer bits.
-pub const OTHER_MODULES: [u32; 18] = [
+/// Module numbers of no module, some of them a module's once cut to fewer bits.
+pub const OTHER_MODULES: [u32; 22] = [
     0,
     1,
     2,
@@ -39,23 +44,27 @@ pub const OTHER_MODULES: [u32; 18] = [
     261,
     559,
     561,
+    62,
     820,
-    830,
+    829,
+    831,
+    8_300,
     2_600,
     5_600,
     65_796,
     66_096,
+    66_366,
     0x8000_0104,
     0xFFFF_FFFF,
 ];
 
-/// Makes `count` whole runs of each module, and broken inputs of each besides.
+/// Makes `count` whole runs of each module, or half as many again, and broken inputs besides.
 pub fn make_traces(seed: u64, count: usize) -> Vec<Input> {
     let modules = HEAD_MAKERS.iter().zip(0..);
     modules
-        .flat_map(|((name, make_head), turn)| {
+        .flat_map(|((name, make_head, halves), turn)| {
             let mut rng = Rng::new(seed.wrapping_add(turn));
-            module_traces(&mut rng, name, *make_head, count)
+            module_traces(&mut rng, name, *make_head, count * halves / 2)
         })
         .collect()
 }
@@ -88,16 +97,37 @@ pub fn whole_run(rng: &mut Rng, head: &Head, entries: usize) -> Vec<u8> {
 
 /// At least so many calls of the module that a head describes.
 pub fn make_calls(rng: &mut Rng, head: &Head, entries: usize) -> Vec<Call> {
-    let profile = rng.pick_by_share(&PROFILES);
-    let (_, mut module) = own_start(head);
+    match own_start(head).1 {
+        Own::Scaler(module) => {
+            let profile = rng.pick_by_share(&PROFILES);
+            calls_of(module, entries, |module, first| {
+                match first && !rng.one_in(5) {
+                    true => arming(rng, module.as_ref()),
+                    false => next_calls(rng, profile, module.as_ref()),
+                }
+            })
+        }
+        Own::V830(module) => {
+            let profile = rng.pick_by_share(&PROFILES_830);
+            calls_of(*module, entries, |module, first| {
+                match first && profile.sets_up && !rng.one_in(5) {
+                    true => setting_up(rng, module),
+                    false => next_calls_830(rng, profile, module),
+                }
+            })
+        }
+    }
+}
+
+/// At least so many calls of a module, each few of them made with an eye on what it then holds.
+fn calls_of<M: Module>(
+    mut module: M,
+    entries: usize,
+    mut next: impl FnMut(&M, bool) -> Vec<Call>,
+) -> Vec<Call> {
     let mut calls = Vec::new();
     while calls.len() < entries {
-        let next = if calls.is_empty() && !rng.one_in(5) {
-            arming(rng, module.as_ref())
-        } else {
-            next_calls(rng, profile, module.as_ref())
-        };
-        for call in next {
+        for call in next(&module, calls.is_empty()) {
             module.call(call);
             calls.push(call);
         }
@@ -150,13 +180,15 @@ fn tame(rng: &mut Rng, make_head: HeadMaker) -> (&'static str, Vec<u8>) {
 
 /// Whether no channel that may count gets more pulses at once than are counted quickly.
 pub fn is_tame(input: &[u8]) -> bool {
-    let place = match read_head(input) {
+    let (head, place) = match read_head(input) {
         Err(_) => return true,
-        Ok((_, place)) => place,
+        Ok(head) => head,
     };
     let (entries, _) = entries_from(input, place);
     entries.iter().all(|entry| match Call::of(entry) {
-        Call::Pulses(channel, pulses) => pulses <= MOST_PULSES || channel as usize >= CHANNELS,
+        Call::Pulses(channel, pulses) => {
+            pulses <= MOST_PULSES || channel as usize >= head.counts.len()
+        }
         _ => true,
     })
 }
@@ -170,11 +202,7 @@ fn short_log(rng: &mut Rng, head: &Head) -> Vec<u8> {
 
 /// A head with one or two broken numbers, or cut, and at times a log behind it.
 fn bad_head(rng: &mut Rng, head: &Head) -> Vec<u8> {
-    let limits: &[(usize, u32)] = match head.switches {
-        HeadSwitches::V260(_) => &LIMITS_260,
-        HeadSwitches::V560(_) => &LIMITS_560,
-    };
-    let mut bytes = broken_head(rng, &head.numbers(), limits);
+    let mut bytes = broken_head(rng, &head.numbers(), head.limits());
     if rng.one_in(2) {
         bytes.extend(short_log(rng, head));
     }
@@ -191,7 +219,7 @@ fn cut_head(rng: &mut Rng, head: &Head) -> Vec<u8> {
 /// A head that names another module, and a log behind it.
 fn other_module(rng: &mut Rng, head: &Head) -> Vec<u8> {
     let module = match any_value(rng) {
-        260 | 560 => 0,
+        260 | 560 | 830 => 0,
         module if rng.one_in(2) => module,
         _ => rng.pick(&OTHER_MODULES),
     };
@@ -241,7 +269,7 @@ mod tests {
     fn a_seed_repeats_its_runs_and_another_differs() {
         assert_eq!(make_traces(7, 20), make_traces(7, 20));
         assert_ne!(make_traces(7, 20), make_traces(8, 20));
-        assert_eq!(make_traces(7, 20).len(), 2 * (20 + 5));
+        assert_eq!(make_traces(7, 20).len(), 2 * (20 + 5) + 30 + 7);
     }
 
     #[test]
@@ -251,7 +279,7 @@ mod tests {
             if input.name.contains(" run ") {
                 let (_, place) = read_head(&input.bytes).expect("a good head");
                 let (entries, fault) = entries_from(&input.bytes, place);
-                assert!((60..=126).contains(&entries.len()), "{}", input.name);
+                assert!((60..=160).contains(&entries.len()), "{}", input.name);
                 assert_eq!(fault, None);
             }
         }

@@ -73,6 +73,10 @@ pub trait Module {
     fn call(&mut self, call: Call) -> Given;
     /// The numbers of a line of the trace behind the answer and the value.
     fn columns(&self) -> Vec<u32>;
+    /// Every word lent to the module as it now is, if it is one that is lent words.
+    fn memory(&self) -> Option<&[u32]> {
+        None
+    }
 }
 
 #[cfg(test)]

@@ -1,4 +1,4 @@
-//! The register tables of the V260 and V560: what both have, and how a table is looked up.
+//! The register tables: what the V260 and the V560 both have, and how a table is looked up.
 
 /// What stands at an offset.
 #[derive(Clone, Copy, Debug, PartialEq, Eq)]
@@ -18,6 +18,17 @@ pub enum Register {
     VetoReset,
     ScaleIncrease,
     Status,
+    /// The V830's memory window, at each of its offsets.
+    Memory,
+    ChannelEnable,
+    Control,
+    BitSet,
+    BitClear,
+    SoftwareReset,
+    SoftwareClear,
+    SoftwareTrigger,
+    TriggerCounter,
+    EventNumber,
 }
 
 use Register::*;
@@ -41,7 +52,8 @@ pub struct Row {
     pub directions: Directions,
 }
 
-/// A module's table: its own rows, those that both modules have, and the counters.
+/// A module's table, in three parts: V260 and V560, its own rows, those that both modules have and
+/// the counters; V830, its registers, the counters and the memory window.
 pub type Table = [&'static [Row]; 3];
 
 /// A row of a register that is accessible in D16 mode only (4.2 of both manuals).
@@ -50,6 +62,16 @@ pub const fn word_row(offset: u32, register: Register, directions: Directions) -
         offset,
         register,
         widths: &[16],
+        directions,
+    }
+}
+
+/// A row of a register that is accessible in D32 mode only.
+pub const fn long_row(offset: u32, register: Register, directions: Directions) -> Row {
+    Row {
+        offset,
+        register,
+        widths: &[32],
         directions,
     }
 }

@@ -126,7 +126,10 @@ fn give_up(child: &mut Child, command: &[OsString]) -> Trouble {
 
 /// Whether the command ended of its own will: docs/FORMATS.md fixes no exit code behind a fault line.
 fn ended_well(status: ExitStatus, listing: &[u8]) -> bool {
-    let last = listing.strip_suffix(b"\n").unwrap_or(listing);
-    let last = last.rsplit(|byte| *byte == b'\n').next().unwrap_or(last);
-    status.success() || (status.code().is_some() && last.starts_with(b"fault "))
+    let text = listing.strip_suffix(b"\n").unwrap_or(listing);
+    let mut lines = text.rsplit(|byte| *byte == b'\n');
+    // A V830's memory stands behind the fault line.
+    let last = lines.find(|line| !line.starts_with(b"memory"));
+    let fault = last.map_or(false, |line| line.starts_with(b"fault "));
+    status.success() || (status.code().is_some() && fault)
 }

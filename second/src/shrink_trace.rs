@@ -2,7 +2,8 @@
 
 use crate::module::Call;
 use crate::shrink::{smaller_inputs, stretches};
-use crate::trace_listing::{entries_from, read_head, Head, HeadSwitches};
+use crate::trace_head::{read_head, Head, HeadSwitches};
+use crate::trace_listing::entries_from;
 
 /// The inputs one step below an input: less entries, the most first, then plainer ones.
 pub fn smaller_traces(input: &[u8]) -> Vec<Vec<u8>> {
@@ -49,8 +50,8 @@ fn plainer_heads(head: &Head) -> Vec<Head> {
     let mut all = Vec::new();
     if head.counts.iter().filter(|count| **count != 0).count() > 1 {
         all.push(Head {
-            counts: [0; 16],
-            ..*head
+            counts: vec![0; head.counts.len()],
+            ..head.clone()
         });
     }
     for (channel, _) in head
@@ -59,25 +60,28 @@ fn plainer_heads(head: &Head) -> Vec<Head> {
         .enumerate()
         .filter(|(_, count)| **count != 0)
     {
-        let mut plainer = *head;
+        let mut plainer = head.clone();
         plainer.counts[channel] = 0;
         all.push(plainer);
     }
-    let fewer = match head.switches {
-        HeadSwitches::V260(switches) => {
-            let fewer = lower_numbers(&switches);
-            fewer.into_iter().map(HeadSwitches::V260).collect()
-        }
-        HeadSwitches::V560(switches) => {
-            let fewer = lower_numbers(&switches);
-            fewer
-                .into_iter()
-                .map(HeadSwitches::V560)
-                .collect::<Vec<_>>()
-        }
+    let fewer = match &head.switches {
+        HeadSwitches::V260(switches) => fewer_switches(switches, HeadSwitches::V260),
+        HeadSwitches::V560(switches) => fewer_switches(switches, HeadSwitches::V560),
+        HeadSwitches::V830(switches) => fewer_switches(switches, HeadSwitches::V830),
     };
-    all.extend(fewer.into_iter().map(|switches| Head { switches, ..*head }));
+    all.extend(fewer.into_iter().map(|switches| Head {
+        switches,
+        ..head.clone()
+    }));
     all
+}
+
+/// The switches of a module with one of them 0, or less one of its bits.
+fn fewer_switches<const N: usize>(
+    switches: &[u32; N],
+    module: fn([u32; N]) -> HeadSwitches,
+) -> Vec<HeadSwitches> {
+    lower_numbers(switches).into_iter().map(module).collect()
 }
 
 /// The numbers with one of them 0, or less one of its bits.
@@ -108,7 +112,7 @@ mod tests {
     fn a_long_failing_input_is_made_small() {
         let head = Head {
             switches: HeadSwitches::V260([0x30, 0xFFFF, 3, 5]),
-            counts: [9; 16],
+            counts: vec![9; 16],
         };
         let mut calls = vec![Call::Pulses(3, 70); 100];
         calls[60] = Call::Read(0x12, 16);
@@ -125,7 +129,7 @@ mod tests {
         };
         let smallest = Head {
             switches: HeadSwitches::V260([0x20, 0, 0, 0]),
-            counts: [0; 16],
+            counts: vec![0; 16],
         };
         let expected = [Call::Pulses(3, 1), Call::Read(0x12, 16)];
         assert_eq!(

@@ -1,88 +1,10 @@
 //! The listing `trace` of docs/FORMATS.md, made by a module.
 
-use crate::break_heads::numbers_bytes;
-use crate::head::{head_numbers, put_fault, put_numbers};
-use crate::log::{number_at, read_entry, Entry};
+use crate::head::{put_fault, put_numbers, put_words};
+use crate::log::{read_entry, Entry};
 use crate::module::{Call, Given, Module};
-use crate::scaler::{Scaler, CHANNELS};
-use crate::v260::{Switches, V260};
-use crate::v560::V560;
-
-/// Line 1 of a V260's trace, as docs/FORMATS.md writes it down.
-pub const TITLE_260: &str = "entry answer value enabled requested level vector line vme \
-c0 c1 c2 c3 c4 c5 c6 c7 c8 c9 c10 c11 c12 c13 c14 c15 \
-l0 l1 l2 l3 l4 l5 l6 l7 l8 l9 l10 l11 l12 l13 l14 l15\n";
-
-/// Line 1 of a V560's trace.
-pub const TITLE_560: &str = "entry answer value enabled requested level vector line vme \
-sections latch \
-c0 c1 c2 c3 c4 c5 c6 c7 c8 c9 c10 c11 c12 c13 c14 c15 \
-l0 l1 l2 l3 l4 l5 l6 l7 l8 l9 l10 l11 l12 l13 l14 l15\n";
-
-/// The fault of a head that names another module.
-const OTHER_MODULE: u32 = 33;
-
-/// The largest switches of each module, behind its number in the head.
-pub const LARGEST_SWITCHES_260: [u32; 4] = [0xFFFF, 0xFFFF, 3, u32::MAX];
-pub const LARGEST_SWITCHES_560: [u32; 1] = [0xFF];
-
-/// A good head: the module, its switches in the head's order, and the counts.
-#[derive(Clone, Copy, Debug, PartialEq, Eq)]
-pub struct Head {
-    pub switches: HeadSwitches,
-    pub counts: [u32; CHANNELS],
-}
-
-/// The module that a head names, and its switches.
-#[derive(Clone, Copy, Debug, PartialEq, Eq)]
-pub enum HeadSwitches {
-    /// joined, interrupts, jumpers, level
-    V260([u32; 4]),
-    /// joined
-    V560([u32; 1]),
-}
-
-impl Head {
-    /// The numbers of the head, in its order.
-    pub fn numbers(&self) -> Vec<u32> {
-        let (module, switches) = match &self.switches {
-            HeadSwitches::V260(switches) => (260, &switches[..]),
-            HeadSwitches::V560(switches) => (560, &switches[..]),
-        };
-        [&[module], switches, &self.counts].concat()
-    }
-
-    /// The bytes of the head.
-    pub fn bytes(&self) -> Vec<u8> {
-        numbers_bytes(&self.numbers())
-    }
-
-    /// Line 1 of the trace.
-    pub fn title(&self) -> &'static str {
-        match self.switches {
-            HeadSwitches::V260(_) => TITLE_260,
-            HeadSwitches::V560(_) => TITLE_560,
-        }
-    }
-}
-
-/// The head of an input and the place after it, or its first fault.
-pub fn read_head(input: &[u8]) -> Result<(Head, usize), u32> {
-    let (module, place) = number_at(input, 0)?;
-    let (switches, place) = match module {
-        260 => {
-            let (switches, place) = head_numbers(input, place, &LARGEST_SWITCHES_260)?;
-            (HeadSwitches::V260(switches), place)
-        }
-        560 => {
-            let (switches, place) = head_numbers(input, place, &LARGEST_SWITCHES_560)?;
-            (HeadSwitches::V560(switches), place)
-        }
-        _ => return Err(OTHER_MODULE),
-    };
-    let (counts, place) = head_numbers(input, place, &[u32::MAX; CHANNELS])?;
-    Ok((Head { switches, counts }, place))
-}
+use crate::own_module::own_start;
+use crate::trace_head::{read_head, Head};
 
 /// The good entries of a log from `place` on, and the fault that ends it and its place, if any.
 pub fn entries_from(input: &[u8], place: usize) -> (Vec<Entry>, Option<(u32, usize)>) {
@@ -97,28 +19,6 @@ pub fn entries_from(input: &[u8], place: usize) -> (Vec<Entry>, Option<(u32, usi
         entries.push(entry);
     }
     (entries, None)
-}
-
-/// The module of a head as this program's own start gives it, the head's counts put in.
-pub fn own_start(head: &Head) -> (Given, Box<dyn Scaler>) {
-    let (given, mut module): (Given, Box<dyn Scaler>) = match head.switches {
-        HeadSwitches::V260([joined, interrupts, jumpers, level]) => {
-            let switches = Switches {
-                joined,
-                interrupts,
-                jp18: jumpers & 1 == 1,
-                jp17: jumpers & 2 == 2,
-            };
-            let (given, module) = V260::start(switches, level);
-            (given, Box::new(module))
-        }
-        HeadSwitches::V560([joined]) => {
-            let (given, module) = V560::start(joined);
-            (given, Box::new(module))
-        }
-    };
-    module.held_mut().counts = head.counts;
-    (given, module)
 }
 
 /// Adds the line of one call to the listing.
@@ -149,6 +49,9 @@ pub fn list_trace<M: Module>(input: &[u8], start: &dyn Fn(&Head) -> (Given, M)) 
     if let Some((answer, place)) = fault {
         put_fault(&mut listing, answer, place);
     }
+    if let Some(words) = module.memory() {
+        put_words(&mut listing, "memory", words);
+    }
     listing
 }
 
@@ -158,10 +61,11 @@ pub fn own_trace(input: &[u8]) -> String {
 }
 
 #[cfg(test)]
-mod tests {
+pub mod tests {
     use super::*;
     use crate::fixed_traces::marked;
     use crate::shrink_trace::input_of;
+    use crate::trace_head::{TITLE_260, TITLE_560};
 
     /// The lines behind the title.
     fn lines(input: &[u8], title: &str) -> String {
@@ -173,20 +77,8 @@ mod tests {
     }
 
     /// Blanks and zeros, so many.
-    fn zeros(count: usize) -> String {
+    pub fn zeros(count: usize) -> String {
         " 0".repeat(count)
-    }
-
-    #[test]
-    fn the_titles_name_every_number() {
-        let names: Vec<&str> = TITLE_260.trim_end().split(' ').collect();
-        assert_eq!(names.len(), 9 + 32);
-        assert_eq!(names[7..10], ["line", "vme", "c0"]);
-        assert_eq!(names[24..26], ["c15", "l0"]);
-        let names: Vec<&str> = TITLE_560.trim_end().split(' ').collect();
-        assert_eq!(names.len(), 11 + 32);
-        assert_eq!(names[8..12], ["vme", "sections", "latch", "c0"]);
-        assert_eq!(names[42], "l15");
     }
 
     #[test]
@@ -252,7 +144,7 @@ mod tests {
             (&[0x84], 30),
             (&[0x84, 2], 30),
             (&[0xB0, 4, 0, 0], 30),
-            (&[0xBE, 6], 33),
+            (&[0xBF, 6], 33),
             (&[4, 0x80, 0], 33),
             (&[0x84, 0x82, 0], 31),
             (&[0xB0, 4, 0x80, 2], 34),

@@ -2,10 +2,11 @@
 
 use crate::make_trace_heads::{shape_260, shape_560, SHAPES_260, SHAPES_560};
 use crate::module::{Call, Module};
-use crate::registers::Table;
+use crate::own_module::{own_start, Own};
+use crate::registers;
 use crate::scaler::{Held, Scaler, CHANNELS};
 use crate::tally::{shown_together, Row};
-use crate::trace_listing::{own_start, Head, HeadSwitches};
+use crate::trace_head::{Head, HeadSwitches};
 use crate::v260::TABLE_260;
 use crate::v560::TABLE_560;
 use std::fmt::{self, Display, Formatter};
@@ -66,7 +67,7 @@ pub struct ModuleTally {
 
 /// An access: the offset, the width, and whether it is a write.
 #[derive(Clone, Copy, Debug, PartialEq, Eq)]
-struct Access(u32, u32, bool);
+pub struct Access(u32, u32, bool);
 
 impl Display for Access {
     /// The access in words.
@@ -77,8 +78,8 @@ impl Display for Access {
     }
 }
 
-/// Every access to a register that there is, of either width and direction.
-fn all_accesses(table: &Table) -> Vec<Access> {
+/// Every access to these registers, of either width and direction.
+pub fn all_accesses(table: &[&[registers::Row]]) -> Vec<Access> {
     let ways = [(16, false), (32, false), (16, true), (32, true)];
     let rows = table.iter().copied().flatten();
     rows.flat_map(|row| ways.map(|(width, write)| Access(row.offset, width, write)))
@@ -86,7 +87,7 @@ fn all_accesses(table: &Table) -> Vec<Access> {
 }
 
 /// The access that a call is, if it is one.
-fn access_of(call: Call) -> Option<Access> {
+pub fn access_of(call: Call) -> Option<Access> {
     match call {
         Call::Read(offset, width) => Some(Access(offset, width, false)),
         Call::Write(offset, width, _) => Some(Access(offset, width, true)),
@@ -127,13 +128,16 @@ impl ModuleTally {
 
     /// Counts a start and the calls behind it.
     pub fn add_run(&mut self, head: &Head, calls: impl Iterator<Item = Call>) {
-        self.joins.add(match head.switches {
-            HeadSwitches::V260([joined, ..]) => shape_260(joined),
-            HeadSwitches::V560([joined]) => shape_560(joined),
-        });
-        let (given, mut module) = own_start(head);
+        match head.switches {
+            HeadSwitches::V260([joined, ..]) => self.joins.add(shape_260(joined)),
+            HeadSwitches::V560([joined]) => self.joins.add(shape_560(joined)),
+            HeadSwitches::V830(_) => {}
+        }
+        let (given, module) = own_start(head);
         self.starts.add(given.answer);
-        calls.for_each(|call| self.add(&mut module, call));
+        if let Own::Scaler(mut module) = module {
+            calls.for_each(|call| self.add(&mut module, call));
+        }
     }
 
     /// Counts one call and does it.

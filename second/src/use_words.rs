@@ -24,9 +24,10 @@ compares the proved programs' listings (docs/FORMATS.md) with its own.
       Events to write in the format of makeblock, run likewise. N random ones
       are made (1200 unless said otherwise), besides the fixed ones.
   second compare trace [--seed N] [--cases N] -- COMMAND [ARGS..]
-      Logs for a V260 or a V560 in the format of trace, run likewise. N random
-      whole runs of each module are made (1200 unless said otherwise), besides
-      broken heads and logs, the fixed and the long ones.
+      Logs for a V260, a V560 or a V830 in the format of trace, run likewise.
+      N random whole runs of each module are made (1200 unless said otherwise),
+      of the V830 half as many again, besides broken heads and logs, the fixed
+      and the long ones. A ledger checks what is printed of every V830 run.
   second answer logs
       Reads cases on standard input, prints the listing of logcases.
   second answer entries

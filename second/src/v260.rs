@@ -126,11 +126,12 @@ mod tests {
     use super::*;
     use crate::fixed_traces::v260;
     use crate::module::{Call, Call::*, Module};
-    use crate::trace_listing::own_start;
+    use crate::own_module::own_start;
 
     /// A V260 with these joined, interrupts, jumpers and level, and these counts.
     fn started(switches: [u32; 4], counts: [u32; CHANNELS]) -> Box<dyn Scaler> {
-        own_start(&v260(switches, counts)).1
+        let (_, module) = own_start(&v260(switches, counts));
+        module.into_scaler().expect("a V260")
     }
 
     /// The answer and the value of each call, one behind the other.
@@ -284,8 +285,9 @@ mod tests {
 
     #[test]
     fn a_refused_start_and_a_malformed_record_get_12() {
-        let (given_start, mut module) = own_start(&v260([1, 0, 0, 8], [0; CHANNELS]));
+        let (given_start, _) = own_start(&v260([1, 0, 0, 8], [0; CHANNELS]));
         assert_eq!((given_start.answer, given_start.value), (12, 0));
+        let mut module = started([1, 0, 0, 8], [0; CHANNELS]);
         assert_eq!(module.held().interrupter.level, 8);
         let calls = [
             Trigger,
@@ -296,8 +298,8 @@ mod tests {
             VetoLine(true),
         ];
         assert_eq!(given(&mut module, &calls), [(12, 0); 6]);
-        let huge = own_start(&v260([1, 0, 0, u32::MAX], [0; CHANNELS]));
-        assert_eq!(huge.1.held().interrupter.level, 8);
+        let huge = started([1, 0, 0, u32::MAX], [0; CHANNELS]);
+        assert_eq!(huge.held().interrupter.level, 8);
         let mut module = started([0, 0, 0, 1], counts(&[(9, 0x1000000)]));
         assert_eq!(given(&mut module, &calls), [(12, 0); 6]);
         assert!(!module.held().line);

@@ -133,12 +133,13 @@ mod tests {
     use super::*;
     use crate::fixed_traces::v560;
     use crate::module::{Call, Call::*, Module};
+    use crate::own_module::own_start;
     use crate::scaler::CHANNELS;
-    use crate::trace_listing::own_start;
 
     /// A V560 with these sections joined, its counts 0 but for those at these channels.
     fn started(joined: u32, some: &[(usize, u32)]) -> Box<dyn Scaler> {
-        own_start(&v560(joined, counts(some))).1
+        let (_, module) = own_start(&v560(joined, counts(some)));
+        module.into_scaler().expect("a V560")
     }
 
     /// The answer and the value of each call, one behind the other.

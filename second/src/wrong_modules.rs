@@ -1,7 +1,7 @@
 //! A V260 and a V560 made once more, which can be wrong on purpose: start, counting, lines.
 
 use crate::module::{Call, Given, Module};
-use crate::trace_listing::{Head, HeadSwitches};
+use crate::trace_head::{Head, HeadSwitches};
 use crate::wrong_slips::Slip::{self, *};
 
 /// A V260 or V560 that is wrong in one way.
@@ -33,6 +33,7 @@ impl Wrong {
         let (wide, [joined, interrupts, jumpers, level]) = match head.switches {
             HeadSwitches::V260(switches) => (false, switches),
             HeadSwitches::V560([joined]) => (true, [joined, 0, 0, 0]),
+            HeadSwitches::V830(_) => unreachable!("a V830 has wrong modules of its own"),
         };
         let most = if slip == StartTakesLevel8 { 8 } else { 7 };
         let refused = level > most && slip != StartNeverRefuses;
@@ -51,7 +52,7 @@ impl Wrong {
             vme: false,
             sections: 0,
             able: slip != VetoLatch0AtStart,
-            counts: head.counts,
+            counts: head.counts[..].try_into().expect("sixteen counts"),
             latches: [0; 16],
             last: 0,
         };

@@ -6,7 +6,8 @@ use crate::head::head_numbers;
 use crate::log::number_at;
 use crate::long_traces::long_traces;
 use crate::make_traces::make_traces;
-use crate::trace_listing::{entries_from, own_trace, read_head, TITLE_260};
+use crate::trace_head::{read_head, TITLE_260};
+use crate::trace_listing::{entries_from, own_trace};
 use crate::use_words::DEFAULT_SEED;
 use crate::wrong_block_listings::caught;
 
@@ -44,6 +45,7 @@ fn fault_without_ranges(input: &[u8]) -> Option<u32> {
     let module = number_at(input, 0).map(|(module, _)| module);
     match module {
         Ok(260) => head_numbers(input, 0, &[u32::MAX; 21]).err(),
+        Ok(830) => head_numbers(input, 0, &[u32::MAX; 35]).err(),
         _ => head_numbers(input, 0, &[u32::MAX; 18]).err(),
     }
 }
@@ -113,6 +115,86 @@ const WRONG_LISTINGS: [(&str, WrongListing); 9] = [
     }),
 ];
 
+/// The memory line of a V830's listing and what stands before it; none of other listings.
+fn memory_line(listing: &str) -> Option<(&str, &str)> {
+    let at = listing.rfind("\nmemory")? + 1;
+    Some(listing.split_at(at))
+}
+
+/// A V830's listing with its memory line changed.
+fn with_memory(input: &[u8], change: fn(&str, &str) -> String) -> String {
+    let right = own_trace(input);
+    match memory_line(&right) {
+        Some((front, memory)) => change(front, memory),
+        None => right,
+    }
+}
+
+/// The record's capacity, first place and stored words in the last line of numbers.
+fn store(front: &str) -> [usize; 3] {
+    let is_number = |line: &&str| line.starts_with(|first: char| first.is_ascii_digit());
+    let line = front.lines().rfind(is_number).expect("a line");
+    let numbers: Vec<usize> = line
+        .split(' ')
+        .map(|word| word.parse().expect("a number"))
+        .collect();
+    [numbers[8], numbers[9], numbers[10]]
+}
+
+/// Listings of a V830 whose memory line is wrong.
+const WRONG_MEMORIES: [(&str, WrongListing); 9] = [
+    ("no memory line", |input| {
+        with_memory(input, |front, _| front.to_string())
+    }),
+    ("the memory in front of the fault", |input| {
+        with_memory(input, |front, memory| match front.rfind("\nfault") {
+            Some(at) => [&front[..=at], memory, &front[at + 1..]].concat(),
+            None => front.to_string() + memory,
+        })
+    }),
+    ("no memory behind a fault", |input| {
+        with_memory(input, |front, memory| match front.contains("\nfault") {
+            true => front.to_string(),
+            false => front.to_string() + memory,
+        })
+    }),
+    ("memory behind a head's fault", |input| {
+        let right = own_trace(input);
+        match right.starts_with("fault") && input.starts_with(&[0xBE, 6]) {
+            true => right + "memory\n",
+            false => right,
+        }
+    }),
+    ("no words of a refused start", |input| {
+        with_memory(input, |front, memory| match store(front)[0] {
+            0 => front.to_string() + "memory\n",
+            _ => front.to_string() + memory,
+        })
+    }),
+    ("the oldest stored word first", |input| {
+        with_memory(input, |front, memory| {
+            let mut words: Vec<&str> = memory.trim_end().split(' ').collect();
+            words[1..].rotate_left(store(front)[1]);
+            format!("{}{}\n", front, words.join(" "))
+        })
+    }),
+    ("the stored words only", |input| {
+        with_memory(input, |front, memory| {
+            let words: Vec<&str> = memory.trim_end().split(' ').collect();
+            let stored = store(front)[2].min(words.len() - 1);
+            format!("{}{}\n", front, words[..=stored].join(" "))
+        })
+    }),
+    ("a blank behind the last word", |input| {
+        with_memory(input, |front, memory| {
+            format!("{}{} \n", front, memory.trim_end())
+        })
+    }),
+    ("a blank behind the word memory alone", |input| {
+        own_trace(input).replace("\nmemory\n", "\nmemory \n")
+    }),
+];
+
 /// Listings that only inputs longer than 65,536 bytes show to be wrong.
 const WRONG_AT_EDGE: [(&str, WrongListing); 4] = [
     ("nothing is read behind the edge", |input| {
@@ -148,7 +230,7 @@ const WRONG_AT_EDGE: [(&str, WrongListing); 4] = [
 fn every_wrong_listing_is_caught_by_fixed_and_by_random_inputs() {
     let fixed = fixed_traces();
     let random = make_traces(DEFAULT_SEED, 400);
-    for (what, wrong) in WRONG_LISTINGS {
+    for (what, wrong) in WRONG_LISTINGS.into_iter().chain(WRONG_MEMORIES) {
         let program = |input: &[u8]| wrong(input).into_bytes();
         assert!(caught(&program, &fixed, &own_trace), "fixed: {}", what);
         assert!(caught(&program, &random, &own_trace), "random: {}", what);

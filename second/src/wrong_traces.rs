@@ -5,17 +5,23 @@ use crate::compare_trace::{compare_trace, DEFAULT_RUNS};
 use crate::fixed_traces::fixed_traces;
 use crate::make_traces::make_traces;
 use crate::runs::Input;
-use crate::trace_listing::{list_trace, own_trace, read_head, HeadSwitches};
+use crate::trace_head::{read_head, HeadSwitches};
+use crate::trace_listing::{list_trace, own_trace};
 use crate::use_words::DEFAULT_SEED;
 use crate::wrong_block_listings::caught;
 use crate::wrong_modules::Wrong;
 use crate::wrong_slips::{Of, Of::*, Slip, Slip::*, SLIPS};
+use crate::wrong_v830_slips::Slip830;
+use crate::wrong_v830_traces::{is_v830, listing_830};
 
 /// So many random runs of each module must catch every slip.
 const SHARE: usize = 600;
 
-/// The `trace` listing of a module with a slip.
+/// The `trace` listing of a V260 or a V560 with a slip, or of a right V830.
 fn listing(slip: Slip, input: &[u8]) -> Vec<u8> {
+    if is_v830(input) {
+        return listing_830(Slip830::Nothing, input);
+    }
     list_trace(input, &|head| Wrong::start(slip, head)).into_bytes()
 }
 
@@ -23,7 +29,11 @@ fn listing(slip: Slip, input: &[u8]) -> Vec<u8> {
 fn inputs_of(module: Of, inputs: &[Input]) -> Vec<Input> {
     let wanted = |input: &&Input| match read_head(&input.bytes) {
         Err(_) => false,
-        Ok((head, _)) => matches!(head.switches, HeadSwitches::V260(_)) == (module == V260),
+        Ok((head, _)) => match head.switches {
+            HeadSwitches::V260(_) => module == V260,
+            HeadSwitches::V560(_) => module == V560,
+            HeadSwitches::V830(_) => false,
+        },
     };
     inputs.iter().filter(wanted).cloned().collect()
 }

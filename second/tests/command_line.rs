@@ -45,11 +45,13 @@ fn it_agrees_with_itself() {
     for (subject, told) in [
         ("blocks", "random inputs agree: 2000 runs"),
         ("makeblock", "random inputs agree: 1200 runs"),
-        ("trace", "random inputs agree: 3000 runs"),
+        ("trace", "random inputs agree: 5250 runs"),
     ] {
         let (code, words) = compare(&[subject, "--", SECOND, "answer", subject]);
         assert_eq!(code, Some(0), "{}", words);
         assert!(words.contains(told), "{}", words);
+        let ledger = words.contains("\nthe ledger checked ");
+        assert_eq!(ledger, subject == "trace", "{}", words);
     }
 }
 
@@ -75,6 +77,15 @@ fn it_answers() {
     let listing = format!(
         "\n1 0 0 0 0 0 0 0 0 0 1 1 0{}\nfault 33 26\n",
         " 0".repeat(30)
+    );
+    let given = String::from_utf8(output.stdout).expect("text");
+    assert!(given.ends_with(&listing), "{}", given);
+    let traced = [&[0xBE, 6, 1, 2][..], &[0; 32], &[4, 8]].concat();
+    let output = second(&["answer", "trace"], &traced);
+    let zeros = " 0".repeat(32);
+    let listing = format!(
+        "\n1 7 0 1 0 4294967295 0 0 2 0 0{}\nfault 33 37\nmemory 1 2\n",
+        zeros
     );
     let given = String::from_utf8(output.stdout).expect("text");
     assert!(given.ends_with(&listing), "{}", given);
