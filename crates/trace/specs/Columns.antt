@@ -7,6 +7,7 @@ use Rattle.bus.specs.declared.interrupter.Interrupter.{Interrupter}
 use Rattle.bus.specs.Answers.{numberOf, valueOf}
 use Rattle.scaler.specs.declared.Scales.{Scales}
 use Rattle.v560.specs.declared.V560.{V560}
+use Rattle.v830.specs.declared.V830.{V830}
 use Rattle.trace.specs.declared.held.Traced.{Traced}
 
 -- "What is on or off is 1 or 0."
@@ -36,3 +37,14 @@ abbrev pub numbers560 : ℕ → Traced → List ℕ
 numbers560 entry t =
     let s : Scales = t .v560 .scales in
     (entry ∷ firstOf (t .answer) (t .interrupter) s) ++ ownOf (t .v560) ++ s .counts ++ s .latches
+
+-- `answer value geo control enable triggers veto capacity first stored`
+abbrev pub firstOf830 : Answer → V830 → List ℕ
+firstOf830 answer s =
+    numberOf answer ∷ valueOf answer
+    ∷ s .geo ∷ s .control ∷ s .enable ∷ s .triggers ∷ oneOrZero (s .veto)
+    ∷ s .store .capacity .0 ∷ s .store .first ∷ s .store .stored .0 ∷ []
+
+-- `entry answer .. stored c0 .. c31`
+abbrev pub numbers830 : ℕ → Traced → List ℕ
+numbers830 entry t = (entry ∷ firstOf830 (t .answer) (t .v830)) ++ t .v830 .counts

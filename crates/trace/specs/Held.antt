@@ -1,17 +1,20 @@
 -- What an entry of the log does to the module; docs/FORMATS.md, `trace`. Assumes nothing.
 use Prim.Native.Nat.{ℕ}
 use mathlib.Core.Bool.{Bool, true, false}
+use mathlib.Core.List.{List}
 use Rattle.benchlog.specs.declared.Entry.{Entry}
 use Rattle.benchlog.specs.declared.Entry.the-variants as entry
 use Rattle.bus.specs.declared.Access.{Access}
 use Rattle.scaler.specs.declared.Call.{Call}
 use Rattle.scaler.specs.declared.Call.the-variants as call
 use Rattle.v260.specs.declared.Outcome as o260
-use Rattle.v260.specs.declared.V260.{V260}
 use Rattle.v260.specs.Calls as v260
 use Rattle.v560.specs.declared.Outcome as o560
-use Rattle.v560.specs.declared.V560.{V560}
 use Rattle.v560.specs.Calls as v560
+use Rattle.v830.specs.declared.Call as c830
+use Rattle.v830.specs.declared.Call.the-variants as call830
+use Rattle.v830.specs.declared.Outcome as o830
+use Rattle.v830.specs.Calls as v830
 use Rattle.trace.specs.declared.held.Traced.{Traced}
 use Rattle.trace.specs.declared.held.Which.{Which}
 use Rattle.trace.specs.declared.held.Which.the-variants as which
@@ -32,17 +35,45 @@ callOf (entry.Read offset width) = call.Access (accessFor false offset width 0)
 callOf (entry.Write offset width word) = call.Access (accessFor true offset width word)
 callOf entry.ManClr = call.ManClr
 
--- the answer's number and value, "and what the module holds after it"; the other module stands still
-abbrev pub after260 : V560 → o260.Outcome → Traced
-after260 still o = record { which = which.V260; answer = o .answer; v260 = o .state; v560 = still; interrupter = o .interrupter }
+-- the same of a V830: kind 4 "is the V830's external trigger"
+abbrev pub call830Of : Entry → c830.Call
+call830Of (entry.Pulse channel n) = call830.Pulses channel n
+call830Of (entry.Veto on) = call830.VetoLine on
+call830Of entry.Test = call830.Test
+call830Of entry.Clear = call830.ClearLine
+call830Of entry.Trigger = call830.TriggerLine
+call830Of (entry.Read offset width) = call830.Access (accessFor false offset width 0)
+call830Of (entry.Write offset width word) = call830.Access (accessFor true offset width word)
+call830Of entry.ManClr = call830.ManClr
 
-abbrev pub after560 : V260 → o560.Outcome → Traced
-after560 still o = record { which = which.V560; answer = o .answer; v260 = still; v560 = o .state; interrupter = o .interrupter }
+-- the answer's number and value, "and what the module holds after it"; the other two stand still
+abbrev pub after260 : Traced → o260.Outcome → Traced
+after260 t o =
+    record { which = which.V260; answer = o .answer; v260 = o .state; v560 = t .v560; v830 = t .v830; interrupter = o .interrupter }
 
--- the module after a call
-abbrev pub actedAs : Which → Traced → Call → Traced
-actedAs which.V260 t c = after260 (t .v560) (v260.stepOf (t .v260) (t .interrupter) c)
-actedAs which.V560 t c = after560 (t .v260) (v560.stepOf (t .v560) (t .interrupter) c)
+abbrev pub after560 : Traced → o560.Outcome → Traced
+after560 t o =
+    record { which = which.V560; answer = o .answer; v260 = t .v260; v560 = o .state; v830 = t .v830; interrupter = o .interrupter }
 
-abbrev pub acted : Traced → Call → Traced
-acted t c = actedAs (t .which) t c
+-- a V830 has no interrupter
+abbrev pub after830 : Traced → o830.Outcome → Traced
+after830 t o =
+    record { which = which.V830; answer = o .answer; v260 = t .v260; v560 = t .v560; v830 = o .state; interrupter = t .interrupter }
+
+-- the module after an entry
+abbrev pub actedAs : Which → Traced → List ℕ → Entry → Traced
+actedAs which.V260 t memory e = after260 t (v260.stepOf (t .v260) (t .interrupter) (callOf e))
+actedAs which.V560 t memory e = after560 t (v560.stepOf (t .v560) (t .interrupter) (callOf e))
+actedAs which.V830 t memory e = after830 t (v830.stepOf (t .v830) memory (call830Of e) .outcome)
+
+abbrev pub acted : Traced → List ℕ → Entry → Traced
+acted t memory e = actedAs (t .which) t memory e
+
+-- the memory after an entry: "Each access and each trigger of a V830 is lent all the words."
+abbrev pub memoryAs : Which → Traced → List ℕ → Entry → List ℕ
+memoryAs which.V260 t memory e = memory
+memoryAs which.V560 t memory e = memory
+memoryAs which.V830 t memory e = v830.stepOf (t .v830) memory (call830Of e) .memory
+
+abbrev pub memoryAfter : Traced → List ℕ → Entry → List ℕ
+memoryAfter t memory e = memoryAs (t .which) t memory e

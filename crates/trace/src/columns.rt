@@ -4,11 +4,12 @@ ghost use mathlib.Core.List.{_++_};
 ghost use Prim.Native.Nat.{_+_, _≤_};
 ghost use lib.ListN.{length};
 ghost use Rattle.text.specs.Text.{put};
-ghost use Rattle.trace.specs.Columns.{oneOrZero, firstOf, numbers260, numbers560};
+ghost use Rattle.trace.specs.Columns.{oneOrZero, firstOf, firstOf830, numbers260, numbers560, numbers830};
 use crate::held::Traced;
 use bus::Answer;
 use bus::interrupter::Interrupter;
 use scaler::Scales;
+use v830::V830;
 
 // What is on or off, as a number.
 fn one_or_zero(on: bool) -> u32
@@ -17,7 +18,7 @@ fn one_or_zero(on: bool) -> u32
     if on { 1 } else { 0 }
 }
 
-// The columns that both modules have before the counts, after the entry's number.
+// The columns that a V260 and a V560 have before the counts, after the entry's number.
 fn first_words(answer: Answer, i: Interrupter, s: Scales) -> [u32; 8]
     ensures { λ r. ⌜ r ≡ firstOf answer i s ⌝ }
 {
@@ -80,5 +81,43 @@ pub(crate) fn numbers_560(entry: u64, t: Traced) -> [u64; 43]
     text::put_words(&mut numbers, 1, &words);
     text::put_words(&mut numbers, 9, &own);
     put_scales(&mut numbers, 11, s);
+    numbers
+}
+
+// The columns of a V830 before the counts, after the entry's number.
+fn first_words_830(answer: Answer, v: V830) -> [u32; 10]
+    ensures { λ r. ⌜ r ≡ firstOf830 answer v ⌝ }
+{
+    let reply = bus::numbered(answer);
+    let veto = one_or_zero(v.veto);
+    let store = v.store;
+    let capacity = store.capacity;
+    let stored = store.stored;
+    [
+        reply.number,
+        reply.value,
+        v.geo,
+        v.control as u32,
+        v.enable,
+        v.triggers,
+        veto,
+        capacity.0,
+        store.first,
+        stored.0,
+    ]
+}
+
+// The numbers of a V830's line.
+pub(crate) fn numbers_830(entry: u64, t: Traced) -> [u64; 43]
+    ensures { λ r. ⌜ r ≡ numbers830 entry t ⌝ }
+{
+    let answer = t.answer;
+    let v = t.v830;
+    let words = first_words_830(answer, v);
+    let counts = v.counts;
+    let mut numbers = [0u64; 43];
+    numbers[0] = entry;
+    text::put_words(&mut numbers, 1, &words);
+    text::put_words(&mut numbers, 11, &counts);
     numbers
 }

@@ -1,9 +1,9 @@
 // The module that is traced, whichever it is, and what an entry does to it.
 ghost use mathlib.Core.Path.{_≡_};
 ghost use Prim.Native.Nat.{_+_, _≤_};
-ghost use lib.ListN.{take, drop};
-ghost use Rattle.trace.specs.Held.{callOf, after260, after560, acted};
-ghost use Rattle.trace.specs.Start.{switchesOf, begun260, begun560, begunOf};
+ghost use lib.ListN.{length, take, drop};
+ghost use Rattle.trace.specs.Held.{accessFor, callOf, call830Of, after260, after560, after830, acted, memoryAfter};
+ghost use Rattle.trace.specs.Start.{switchesOf, resting, begun260, begun560, begun830, begunOf};
 use benchlog::Entry;
 use bus::Access;
 use bus::Answer;
@@ -12,24 +12,39 @@ use scaler::Call;
 use v260::Switches;
 use v260::V260;
 use v560::V560;
+use v830::V830;
 
 // Which module is traced.
 pub(crate) enum Which {
     V260,
     V560,
+    V830,
 }
 
-// The module that is traced, with the answer of its last call and its interrupter; the other one stands still.
+// The module that is traced, with the answer of its last call and its interrupter; the other two stand still.
 pub(crate) struct Traced {
     pub(crate) which: Which,
     pub(crate) answer: Answer,
     pub(crate) v260: V260,
     pub(crate) v560: V560,
+    pub(crate) v830: V830,
     pub(crate) interrupter: Interrupter,
 }
 
-// The call that an entry of the log makes.
-pub(crate) fn call_of(entry: Entry) -> Call
+// The access of an entry; a read has no data.
+fn access_for(write: bool, offset: u32, width: u32, data: u32) -> Access
+    ensures { λ r. ⌜ r ≡ accessFor write offset width «data» ⌝ }
+{
+    Access {
+        offset,
+        width,
+        write,
+        data,
+    }
+}
+
+// The call of a V260 or a V560 that an entry of the log makes.
+fn call_of(entry: Entry) -> Call
     ensures { λ r. ⌜ r ≡ callOf entry ⌝ }
 {
     match entry {
@@ -38,80 +53,116 @@ pub(crate) fn call_of(entry: Entry) -> Call
         Entry::Test => Call::Test,
         Entry::Clear => Call::ClearLine,
         Entry::Trigger => Call::Trigger,
-        Entry::Read(offset, width) => Call::Access(Access {
-            offset,
-            width,
-            write: false,
-            data: 0,
-        }),
-        Entry::Write(offset, width, data) => Call::Access(Access {
-            offset,
-            width,
-            write: true,
-            data,
-        }),
+        Entry::Read(offset, width) => Call::Access(access_for(false, offset, width, 0)),
+        Entry::Write(offset, width, data) => Call::Access(access_for(true, offset, width, data)),
         Entry::ManClr => Call::ManClr,
     }
 }
 
-// The module after a call.
-pub(crate) fn act(t: Traced, call: Call) -> Traced
-    ensures { λ r. ⌜ r ≡ acted t call ⌝ }
+// The call of a V830, likewise.
+fn call_830_of(entry: Entry) -> v830::Call
+    ensures { λ r. ⌜ r ≡ call830Of entry ⌝ }
+{
+    match entry {
+        Entry::Pulse(channel, n) => v830::Call::Pulses(channel, n),
+        Entry::Veto(on) => v830::Call::VetoLine(on),
+        Entry::Test => v830::Call::Test,
+        Entry::Clear => v830::Call::ClearLine,
+        Entry::Trigger => v830::Call::TriggerLine,
+        Entry::Read(offset, width) => v830::Call::Access(access_for(false, offset, width, 0)),
+        Entry::Write(offset, width, data) => v830::Call::Access(access_for(
+            true,
+            offset,
+            width,
+            data,
+        )),
+        Entry::ManClr => v830::Call::ManClr,
+    }
+}
+
+// The module after an entry; a V830 is lent the memory.
+pub(crate) fn act(t: Traced, memory: &mut [u32], entry: Entry) -> Traced
+    ensures { λ r. ⌜ (r ≡ acted t (now (memory .entry)) entry) × (now (memory .exit) ≡ memoryAfter t (now (memory .entry)) entry) ⌝ }
 {
     let which = t.which;
     let v260 = t.v260;
     let v560 = t.v560;
+    let v830 = t.v830;
     let i = t.interrupter;
     match which {
-        Which::V260 => after_260(v560, v260::by_value::step(v260, i, call)),
-        Which::V560 => after_560(v260, v560::by_value::step(v560, i, call)),
+        Which::V260 => after_260(t, v260::by_value::step(v260, i, call_of(entry))),
+        Which::V560 => after_560(t, v560::by_value::step(v560, i, call_of(entry))),
+        Which::V830 => after_830(t, v830::step(v830, memory, call_830_of(entry))),
     }
 }
 
-// What a call of the V260 leaves, the V560 standing still.
-fn after_260(v560: V560, o: v260::Outcome) -> Traced
-    ensures { λ r. ⌜ r ≡ after260 v560 o ⌝ }
+// What a call of the V260 leaves; the other two stand still.
+fn after_260(t: Traced, o: v260::Outcome) -> Traced
+    ensures { λ r. ⌜ r ≡ after260 t o ⌝ }
 {
     let answer = o.answer;
     let v260 = o.state;
+    let v560 = t.v560;
+    let v830 = t.v830;
     let interrupter = o.interrupter;
     Traced {
         which: Which::V260,
         answer,
         v260,
         v560,
+        v830,
         interrupter,
     }
 }
 
 // What a call of the V560 leaves, likewise.
-fn after_560(v260: V260, o: v560::Outcome) -> Traced
-    ensures { λ r. ⌜ r ≡ after560 v260 o ⌝ }
+fn after_560(t: Traced, o: v560::Outcome) -> Traced
+    ensures { λ r. ⌜ r ≡ after560 t o ⌝ }
 {
     let answer = o.answer;
+    let v260 = t.v260;
     let v560 = o.state;
+    let v830 = t.v830;
     let interrupter = o.interrupter;
     Traced {
         which: Which::V560,
         answer,
         v260,
         v560,
+        v830,
         interrupter,
     }
 }
 
-// The sixteen counts of a head's values, from a place on.
-fn counts_from(values: [u32; 40], from: usize) -> [u32; 16]
-    requires { ⌜ from + 16 ≤ 40 ⌝ }
-    ensures { λ r. ⌜ r ≡ take 16 (drop from values) ⌝ }
+// What a call of the V830 leaves, likewise; it has no interrupter.
+fn after_830(t: Traced, o: v830::Outcome) -> Traced
+    ensures { λ r. ⌜ r ≡ after830 t o ⌝ }
 {
-    let mut counts = [0u32; 16];
+    let answer = o.answer;
+    let v260 = t.v260;
+    let v560 = t.v560;
+    let v830 = o.state;
+    let interrupter = t.interrupter;
+    Traced {
+        which: Which::V830,
+        answer,
+        v260,
+        v560,
+        v830,
+        interrupter,
+    }
+}
+
+// Fills the lent counts with a head's values, from a place on.
+fn copy_from(values: [u32; 40], from: usize, counts: &mut [u32])
+    requires { ⌜ from + length (now counts) ≤ 40 ⌝ }
+    ensures { λ _. ⌜ now (counts .exit) ≡ take (length (now (counts .entry))) (drop from values) ⌝ }
+{
     let mut k: usize = 0;
-    while k < 16 {
+    while k < counts.len() {
         counts[k] = values[from + k];
         k += 1;
     }
-    counts
 }
 
 // The switches of a V260's head.
@@ -126,6 +177,27 @@ fn switches_of(values: [u32; 40]) -> Switches
     }
 }
 
+// The three modules at rest, from which a start begins.
+fn resting() -> Traced
+    ensures { λ r. ⌜ r ≡ resting ⌝ }
+{
+    let a = v260::start(switches_of([0; 40]), 0);
+    let v260 = a.state;
+    let b = v560::start(0);
+    let v560 = b.state;
+    let memory = [0u32; 1];
+    let c = v830::start(0, &memory);
+    let v830 = c.state;
+    Traced {
+        which: Which::V260,
+        answer: Answer::Done(0),
+        v260,
+        v560,
+        v830,
+        interrupter: Interrupter::power_on(0),
+    }
+}
+
 // A V260 that is started with the switches of a head, and then given its counts.
 fn begin_260(values: [u32; 40]) -> Traced
     ensures { λ r. ⌜ r ≡ begun260 values ⌝ }
@@ -133,13 +205,12 @@ fn begin_260(values: [u32; 40]) -> Traced
     let mut o = v260::start(switches_of(values), values[4]);
     let mut state = o.state;
     let mut scales = state.scales;
-    let counts = counts_from(values, 5);
+    let mut counts = [0u32; 16];
+    copy_from(values, 5, &mut counts);
     scales.counts = counts;
     state.scales = scales;
     o.state = state;
-    let still = v560::start(0);
-    let v560 = still.state;
-    after_260(v560, o)
+    after_260(resting(), o)
 }
 
 // A V560, likewise.
@@ -149,21 +220,36 @@ fn begin_560(values: [u32; 40]) -> Traced
     let mut o = v560::start((values[1] % 256) as u8);
     let mut state = o.state;
     let mut scales = state.scales;
-    let counts = counts_from(values, 2);
+    let mut counts = [0u32; 16];
+    copy_from(values, 2, &mut counts);
     scales.counts = counts;
     state.scales = scales;
     o.state = state;
-    let still = v260::start(switches_of([0; 40]), 0);
-    let v260 = still.state;
-    after_560(v260, o)
+    after_560(resting(), o)
+}
+
+// A V830, likewise, with the memory that is lent to it.
+fn begin_830(values: [u32; 40], memory: &[u32]) -> Traced
+    ensures { λ r. ⌜ r ≡ begun830 values (now (memory .entry)) ⌝ }
+{
+    let mut o = v830::start(values[1], memory);
+    let mut state = o.state;
+    let mut counts = [0u32; 32];
+    copy_from(values, 3, &mut counts);
+    state.counts = counts;
+    o.state = state;
+    after_830(resting(), o)
 }
 
 // The module that a head's first value names, started.
-pub(crate) fn begin(values: [u32; 40]) -> Traced
-    ensures { λ r. ⌜ r ≡ begunOf values ⌝ }
+pub(crate) fn begin(values: [u32; 40], memory: &[u32]) -> Traced
+    ensures { λ r. ⌜ r ≡ begunOf values (now (memory .entry)) ⌝ }
 {
     if values[0] == 260 {
         return begin_260(values);
     }
-    begin_560(values)
+    if values[0] == 560 {
+        return begin_560(values);
+    }
+    begin_830(values, memory)
 }

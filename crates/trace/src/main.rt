@@ -1,26 +1,26 @@
-// Shows everything that a V260 or a V560 holds, after each entry of a log.
+// Shows everything that a V260, a V560 or a V830 holds, after each entry of a log.
 ghost use mathlib.Core.Path.{_≡_};
 ghost use Prim.Native.Nat.{_≤_};
 ghost use lib.ListN.{length};
-ghost use Rattle.trace.specs.Start.{limits260, limits560, headIn};
+ghost use Rattle.trace.specs.Start.{limits260, limits560, limits830, headIn, lentOf, upFrom};
 use benchlog::Entry;
 use benchlog::Fault;
 use benchlog::Reading;
 use columns::numbers_260;
 use columns::numbers_560;
+use columns::numbers_830;
 use head::Head;
 use held::Traced;
 use held::Which;
 use held::act;
 use held::begin;
-use held::call_of;
 use stdio::Listing;
 
 mod columns;
 mod held;
 
-// No limits, for the longest head, which has 21 numbers.
-const ANY: [u32; 21] = [4294967295; 21];
+// No limits, for the longest head, which has 35 numbers.
+const ANY: [u32; 35] = [4294967295; 35];
 
 // A listing under way: where it stands, the module, and how many entries it has shown.
 struct Course {
@@ -49,6 +49,15 @@ fn limits_560() -> [u32; 18]
     limits
 }
 
+// The limits of a V830's head: capacity has one.
+fn limits_830() -> [u32; 35]
+    ensures { λ r. ⌜ r ≡ limits830 ⌝ }
+{
+    let mut limits = [4294967295u32; 35];
+    limits[2] = 40000;
+    limits
+}
+
 // The head that an input begins with; its first number names the module.
 fn head_in(input: &[u8]) -> Head
     ensures { λ r. ⌜ r ≡ headIn (now (input .entry)) ⌝ }
@@ -63,6 +72,10 @@ fn head_in(input: &[u8]) -> Head
     }
     if name.values[0] == 560 {
         let limits = limits_560();
+        return head::read_head(input, &limits);
+    }
+    if name.values[0] == 830 {
+        let limits = limits_830();
         return head::read_head(input, &limits);
     }
     Head {
@@ -85,6 +98,11 @@ fn put_names(out: &mut [u8], which: Which) -> usize {
             0,
             b"entry answer value enabled requested level vector line vme sections latch c0 c1 c2 c3 c4 c5 c6 c7 c8 c9 c10 c11 c12 c13 c14 c15 l0 l1 l2 l3 l4 l5 l6 l7 l8 l9 l10 l11 l12 l13 l14 l15\n",
         ),
+        Which::V830 => text::put_text(
+            out,
+            0,
+            b"entry answer value geo control enable triggers veto capacity first stored c0 c1 c2 c3 c4 c5 c6 c7 c8 c9 c10 c11 c12 c13 c14 c15 c16 c17 c18 c19 c20 c21 c22 c23 c24 c25 c26 c27 c28 c29 c30 c31\n",
+        ),
     }
 }
 
@@ -101,16 +119,49 @@ fn put_held(out: &mut [u8], at: usize, entry: u64, traced: Traced) -> usize {
             let numbers = numbers_560(entry, traced);
             text::put_line(out, room, &numbers)
         }
+        Which::V830 => {
+            let numbers = numbers_830(entry, traced);
+            text::put_line(out, room, &numbers)
+        }
+    }
+}
+
+// Puts a word of the memory after a blank.
+fn put_word(out: &mut [u8], at: usize, word: u32) -> usize {
+    let room = stdio::make_room(out, at, 11);
+    let p = text::put_text(out, room, b" ");
+    text::put_number(out, p, word as u64)
+}
+
+// Puts the line of every lent word.
+fn put_memory(out: &mut [u8], at: usize, memory: &[u32]) -> usize {
+    let room = stdio::make_room(out, at, 6);
+    let mut p = text::put_text(out, room, b"memory");
+    let mut k: usize = 0;
+    while k < memory.len() {
+        p = put_word(out, p, memory[k]);
+        k += 1;
+    }
+    let last = stdio::make_room(out, p, 1);
+    text::put_text(out, last, b"\n")
+}
+
+// Puts what comes after the last line: the memory of a V830.
+fn put_last(out: &mut [u8], at: usize, which: Which, memory: &[u32]) -> usize {
+    match which {
+        Which::V260 => at,
+        Which::V560 => at,
+        Which::V830 => put_memory(out, at, memory),
     }
 }
 
 // Gives the module an entry, shows what it holds then, and goes on behind it.
-fn shown(out: &mut [u8], course: Course, entry: Entry, next: usize) -> Course
+fn shown(out: &mut [u8], memory: &mut [u32], course: Course, entry: Entry, next: usize) -> Course
     ensures { λ r. ⌜ r .listing .have ≤ course .listing .have ⌝ }
 {
     let mut l = course.listing;
     let before = course.traced;
-    let traced = act(before, call_of(entry));
+    let traced = act(before, memory, entry);
     let entries = std::num::wrapping_add_u64(course.entries, 1);
     l.at = put_held(out, l.at, entries, traced);
     l.used = next;
@@ -134,14 +185,14 @@ fn moved(course: Course, listing: Listing) -> Course
 }
 
 // Shows the entry that comes next, or reads on, or ends the listing.
-fn turn(buf: &mut [u8], out: &mut [u8], course: Course) -> Course
+fn turn(buf: &mut [u8], out: &mut [u8], memory: &mut [u32], course: Course) -> Course
     requires { ⌜ course .listing .have ≤ length (now buf) ⌝ }
     ensures { λ r. ⌜ r .listing .have ≤ length (now (buf .entry)) ⌝ }
 {
     let l = course.listing;
     let have = l.have;
     match benchlog::read_entry(&buf[..have], l.used) {
-        Reading::Entry(entry, next) => shown(out, course, entry, next),
+        Reading::Entry(entry, next) => shown(out, memory, course, entry, next),
         Reading::Refused(fault, _) => {
             let number = benchlog::fault_number(fault);
             if !l.ended && number == benchlog::fault_number(Fault::Ends) {
@@ -153,11 +204,11 @@ fn turn(buf: &mut [u8], out: &mut [u8], course: Course) -> Course
 }
 
 // Shows the start and each entry behind a head.
-fn list_entries(buf: &mut [u8], out: &mut [u8], first: Listing, head: Head)
+fn list_entries(buf: &mut [u8], out: &mut [u8], memory: &mut [u32], first: Listing, head: Head)
     requires { ⌜ first .have ≤ length (now buf) ⌝ }
 {
     let values = head.values;
-    let traced = begin(values);
+    let traced = begin(values, memory);
     let which = traced.which;
     let at = put_names(out, which);
     let mut l = first;
@@ -170,28 +221,59 @@ fn list_entries(buf: &mut [u8], out: &mut [u8], first: Listing, head: Head)
     };
     let mut turns = u64::MAX;
     while turns > 0 && course.listing.more {
-        course = turn(buf, out, course);
+        course = turn(buf, out, memory, course);
         turns -= 1;
     }
-    stdio::flush(out, course.listing.at);
+    let last = put_last(out, course.listing.at, which, memory);
+    stdio::flush(out, last);
+}
+
+// How many of the words that there are a head lends: a V830's capacity.
+fn lent(values: [u32; 40], most: usize) -> usize
+    ensures { λ r. ⌜ (r ≡ lentOf values most) × (r ≤ most) ⌝ }
+{
+    if values[0] != 830 {
+        return 0;
+    }
+    let capacity = values[2] as usize;
+    if capacity > most {
+        return 0;
+    }
+    capacity
 }
 
 // The whole listing; a refused head is its fault line alone.
-fn run(buf: &mut [u8], out: &mut [u8]) {
+fn run(buf: &mut [u8], out: &mut [u8], memory: &mut [u32]) {
     let first = head::begin(buf, &ANY);
     let have = first.have;
     let head = head_in(&buf[..have]);
     if head.answer == 0 {
-        list_entries(buf, out, first, head);
+        let values = head.values;
+        let end = lent(values, memory.len());
+        list_entries(buf, out, &mut memory[..end], first, head);
         return;
     }
     let at = text::put_fault(out, 0, head.answer, 0);
     stdio::flush(out, at);
 }
 
-// The two buffers, of 64 KiB each.
+// Sets the words to 1, 2, 3 and so on.
+fn count_up(memory: &mut [u32])
+    requires { ⌜ length (now memory) ≤ 40000 ⌝ }
+    ensures { λ _. ⌜ now (memory .exit) ≡ upFrom 1 (length (now (memory .entry))) ⌝ }
+{
+    let mut k: usize = 0;
+    while k < memory.len() {
+        memory[k] = (k + 1) as u32;
+        k += 1;
+    }
+}
+
+// The two buffers, of 64 KiB each, and the words that a V830 may be lent.
 fn main() {
     let mut buf = [0u8; 65536];
     let mut out = [0u8; 65536];
-    run(&mut buf, &mut out);
+    let mut memory = [0u32; 40000];
+    count_up(&mut memory);
+    run(&mut buf, &mut out, &mut memory);
 }

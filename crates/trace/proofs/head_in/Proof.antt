@@ -53,15 +53,36 @@ returns-3 c =
     let e = f .before .before in
     rw (← e .before .read-head .ensures, eq-eqb _ _ (e .if1 .left), ne-eqb _ _ (f .if2 .left), eq-eqb _ _ (l .before .if3 .taken), c .read-head3 .ensures, l .limits-560 .ensures)
 
-fault-number-requires : tie.Need-fault-number-requires
-fault-number-requires c κs = search needs
+element-copy-out-if4 : tie.Need-element-copy-out-if4
+element-copy-out-if4 c = search needs
+
+limits-830-requires : tie.Need-limits-830-requires
+limits-830-requires c κs = search needs
+
+slice-aggregate-read-head-4 : tie.Need-slice-aggregate-read-head-4
+slice-aggregate-read-head-4 c = search needs
+
+read-head-requires-4 : tie.Need-read-head-requires-4
+read-head-requires-4 c κs = search needs
 
 returns-4 : tie.Need-returns-4
 returns-4 c =
-    let t = c .before in
-    let f = t .before .before in
+    let l = c .before .before in
+    let g = l .before .before .before in
+    let f = g .before .before in
     let e = f .before .before in
-    rw (← e .before .read-head .ensures, eq-eqb _ _ (e .if1 .left), ne-eqb _ _ (f .if2 .left), ne-eqb _ _ (t .if3 .left), c .fault-number .ensures)
+    rw (← e .before .read-head .ensures, eq-eqb _ _ (e .if1 .left), ne-eqb _ _ (f .if2 .left), ne-eqb _ _ (g .if3 .left), eq-eqb _ _ (l .before .if4 .taken), c .read-head4 .ensures, l .limits-830 .ensures)
+
+fault-number-requires : tie.Need-fault-number-requires
+fault-number-requires c κs = search needs
+
+returns-5 : tie.Need-returns-5
+returns-5 c =
+    let t = c .before in
+    let g = t .before .before in
+    let f = g .before .before in
+    let e = f .before .before in
+    rw (← e .before .read-head .ensures, eq-eqb _ _ (e .if1 .left), ne-eqb _ _ (f .if2 .left), ne-eqb _ _ (g .if3 .left), ne-eqb _ _ (t .if4 .left), c .fault-number .ensures)
 
 pub head-in-spec : {M : Type 1} → statement M
 head-in-spec =
@@ -81,5 +102,10 @@ head-in-spec =
     slice-aggregate-read-head-3
     read-head-requires-3
     returns-3
+    element-copy-out-if4
+    limits-830-requires
+    slice-aggregate-read-head-4
+    read-head-requires-4
+    returns-4
     fault-number-requires
-    returns-4)
+    returns-5)

@@ -1,4 +1,4 @@
--- The buffers keep their lengths, and what is had of the input lies within its buffer; the measure is a count of turns. Assumes nothing.
+-- The buffers and the memory keep their lengths, and what is had of the input lies within its buffer; the measure is a count of turns. Assumes nothing.
 use mathlib.Core.Path.{_≡_}
 use Prim.Native.Nat.{_≤_}
 use lib.ListN.{length}
@@ -7,10 +7,10 @@ use Rattle.trace.proofs.list_entries.Statement.{statement}
 use Rattle.trace.proofs.list_entries.Tie as tie
 
 abbrev Inv-loop : tie.InvT-loop
-Inv-loop buf₀ out₀ at course₀ turns₀ buf out course turns = (course .listing .have ≤ length buf₀) × (length buf ≡ length buf₀) × (length out ≡ length out₀)
+Inv-loop buf₀ out₀ memory₀ which at course₀ turns₀ buf out memory course turns = (course .listing .have ≤ length buf₀) × (length buf ≡ length buf₀) × (length out ≡ length out₀) × (length memory ≡ length memory₀)
 
 abbrev μ-loop : tie.MeasureT-loop
-μ-loop buf₀ out₀ at course₀ turns₀ buf out course turns = turns
+μ-loop buf₀ out₀ memory₀ which at course₀ turns₀ buf out memory course turns = turns
 
 begin-requires : tie.Need-begin-requires Inv-loop μ-loop
 begin-requires c κs = search needs
@@ -36,6 +36,9 @@ loop-less c = search needs
 loop-again : tie.Need-loop-again Inv-loop μ-loop
 loop-again c = search needs
 
+put-last-requires : tie.Need-put-last-requires Inv-loop μ-loop
+put-last-requires c κs = search needs
+
 flush-requires : tie.Need-flush-requires Inv-loop μ-loop
 flush-requires c κs = search needs
 
@@ -44,6 +47,9 @@ same-length c = search needs
 
 same-length-2 : tie.Need-same-length-2 Inv-loop μ-loop
 same-length-2 c = search needs
+
+same-length-3 : tie.Need-same-length-3 Inv-loop μ-loop
+same-length-3 c = search needs
 
 returns : tie.Need-returns Inv-loop μ-loop
 returns c = search needs
@@ -62,7 +68,9 @@ list-entries-spec =
     sub-turns
     loop-less
     loop-again
+    put-last-requires
     flush-requires
     same-length
     same-length-2
+    same-length-3
     returns)

@@ -1,4 +1,4 @@
--- What is had of the input lies within its buffer. Assumes nothing.
+-- What is had of the input lies within its buffer, and what is lent within the memory. Assumes nothing.
 use mathlib.Core.Path.{sym}
 use lib.Seq.{length-take-le}
 use borrow.Author.Needs.{needs}
@@ -20,6 +20,15 @@ slice-aggregate-head-in c = sym (length-take-le _ _ (c .before .before .before .
 head-in-requires : tie.Need-head-in-requires
 head-in-requires c κs = search needs
 
+lent-requires : tie.Need-lent-requires
+lent-requires c κs = search needs
+
+slice-relend-prefix-list-entries : tie.Need-slice-relend-prefix-list-entries
+slice-relend-prefix-list-entries c = search needs
+
+slice-aggregate-list-entries : tie.Need-slice-aggregate-list-entries
+slice-aggregate-list-entries c = sym (length-take-le _ _ (c .before .before .before .lent .ensures .1))
+
 list-entries-requires : tie.Need-list-entries-requires
 list-entries-requires c κs = search needs
 
@@ -28,6 +37,9 @@ same-length c = search needs
 
 same-length-2 : tie.Need-same-length-2
 same-length-2 c = search needs
+
+same-length-3 : tie.Need-same-length-3
+same-length-3 c = search needs
 
 returns : tie.Need-returns
 returns c = search needs
@@ -38,11 +50,11 @@ put-fault-requires c κs = search needs
 flush-requires : tie.Need-flush-requires
 flush-requires c κs = search needs
 
-same-length-3 : tie.Need-same-length-3
-same-length-3 c = search needs
-
 same-length-4 : tie.Need-same-length-4
 same-length-4 c = search needs
+
+same-length-5 : tie.Need-same-length-5
+same-length-5 c = search needs
 
 returns-2 : tie.Need-returns-2
 returns-2 c = search needs
@@ -56,12 +68,16 @@ run-spec =
     slice-reshare-prefix-head-in
     slice-aggregate-head-in
     head-in-requires
+    lent-requires
+    slice-relend-prefix-list-entries
+    slice-aggregate-list-entries
     list-entries-requires
     same-length
     same-length-2
+    same-length-3
     returns
     put-fault-requires
     flush-requires
-    same-length-3
     same-length-4
+    same-length-5
     returns-2)

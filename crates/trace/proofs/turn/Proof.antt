@@ -11,7 +11,7 @@ slice-reshare-prefix-read-entry c = search needs
 
 slice-aggregate-read-entry : tie.Need-slice-aggregate-read-entry
 slice-aggregate-read-entry c =
-    let a = c .before .before .before .before .args in
+    let a = c .before .before .before .before .before .args in
     sym (length-take-le (a .course .listing .have) (a .buf .now) (omega arith))
 
 read-entry-requires : tie.Need-read-entry-requires
@@ -56,20 +56,23 @@ same-length-2 c = search needs
 same-length-3 : tie.Need-same-length-3
 same-length-3 c = search needs
 
-returns-2 : tie.Need-returns-2
-returns-2 c = search needs
-
 same-length-4 : tie.Need-same-length-4
 same-length-4 c = search needs
 
+returns-2 : tie.Need-returns-2
+returns-2 c = search needs
+
 same-length-5 : tie.Need-same-length-5
 same-length-5 c = search needs
+
+same-length-6 : tie.Need-same-length-6
+same-length-6 c = search needs
 
 returns-3 : tie.Need-returns-3
 returns-3 c =
     let e = c .before .before .before in
     let m = e .before .before .before .before .before .before .before in
-    rw (c .moved2 .ensures, e .end .ensures .0) (m .before .before .before .before .before .before .pre)
+    rw (c .moved2 .ensures, e .end .ensures .0) (m .before .before .before .before .before .before .before .pre)
 
 pub turn-spec : {M : Type 1} → statement M
 turn-spec =
@@ -91,7 +94,8 @@ turn-spec =
     moved-requires-2
     same-length-2
     same-length-3
-    returns-2
     same-length-4
+    returns-2
     same-length-5
+    same-length-6
     returns-3)

@@ -12,11 +12,14 @@ array-read-start c = search needs
 start-requires : tie.Need-start-requires
 start-requires c κs = search needs
 
-counts-from-requires : tie.Need-counts-from-requires
-counts-from-requires c κs = search needs
+slice-aggregate-copy-from : tie.Need-slice-aggregate-copy-from
+slice-aggregate-copy-from c = search needs
 
-start-requires-2 : tie.Need-start-requires-2
-start-requires-2 c κs = search needs
+copy-from-requires : tie.Need-copy-from-requires
+copy-from-requires c κs = search needs
+
+resting-requires : tie.Need-resting-requires
+resting-requires c κs = search needs
 
 after-260-requires : tie.Need-after-260-requires
 after-260-requires c κs = search needs
@@ -24,8 +27,8 @@ after-260-requires c κs = search needs
 returns : tie.Need-returns
 returns c =
     let k = c .before .before .before in
-    let s = k .before .before .before in
-    rw (c .after-260 .ensures, c .before .before .start2 .ensures, k .counts-from .ensures, s .start .ensures, s .before .switches-of .ensures)
+    let s = k .before .before .before .before in
+    rw (c .after-260 .ensures, c .before .resting .ensures, k .copy-from .ensures, s .start .ensures, s .before .switches-of .ensures)
 
 pub begin-260-spec : {M : Type 1} → statement M
 begin-260-spec =
@@ -34,7 +37,8 @@ begin-260-spec =
     switches-of-requires
     array-read-start
     start-requires
-    counts-from-requires
-    start-requires-2
+    slice-aggregate-copy-from
+    copy-from-requires
+    resting-requires
     after-260-requires
     returns)

@@ -12,24 +12,23 @@ cast-start c = search needs
 start-requires : tie.Need-start-requires
 start-requires c κs = search needs
 
-counts-from-requires : tie.Need-counts-from-requires
-counts-from-requires c κs = search needs
+slice-aggregate-copy-from : tie.Need-slice-aggregate-copy-from
+slice-aggregate-copy-from c = search needs
 
-switches-of-requires : tie.Need-switches-of-requires
-switches-of-requires c κs = search needs
+copy-from-requires : tie.Need-copy-from-requires
+copy-from-requires c κs = search needs
 
-start-requires-2 : tie.Need-start-requires-2
-start-requires-2 c κs = search needs
+resting-requires : tie.Need-resting-requires
+resting-requires c κs = search needs
 
 after-560-requires : tie.Need-after-560-requires
 after-560-requires c κs = search needs
 
 returns : tie.Need-returns
 returns c =
-    let t = c .before .before in
-    let k = t .before .before in
-    let s = k .before .before .before in
-    rw (c .after-560 .ensures, t .start2 .ensures, t .before .switches-of .ensures, k .counts-from .ensures, s .start .ensures)
+    let k = c .before .before .before in
+    let s = k .before .before .before .before in
+    rw (c .after-560 .ensures, c .before .resting .ensures, k .copy-from .ensures, s .start .ensures)
 
 pub begin-560-spec : {M : Type 1} → statement M
 begin-560-spec =
@@ -38,8 +37,8 @@ begin-560-spec =
     array-read-start
     cast-start
     start-requires
-    counts-from-requires
-    switches-of-requires
-    start-requires-2
+    slice-aggregate-copy-from
+    copy-from-requires
+    resting-requires
     after-560-requires
     returns)

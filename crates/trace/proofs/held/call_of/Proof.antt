@@ -21,8 +21,14 @@ enum-told-3 c = search needs
 enum-known-entry-3 : tie.Need-enum-known-entry-3
 enum-known-entry-3 c = search needs
 
+access-for-requires : tie.Need-access-for-requires
+access-for-requires c κs = search needs
+
 enum-known-entry-4 : tie.Need-enum-known-entry-4
 enum-known-entry-4 c = search needs
+
+access-for-requires-2 : tie.Need-access-for-requires-2
+access-for-requires-2 c κs = search needs
 
 enum-told-4 : tie.Need-enum-told-4
 enum-told-4 c = search needs
@@ -43,10 +49,10 @@ returns-5 : tie.Need-returns-5
 returns-5 c = search needs
 
 returns-6 : tie.Need-returns-6
-returns-6 c = rw (c .before .entry3 .given .1)
+returns-6 c = rw (c .before .before .entry3 .given .1, c .access-for .ensures)
 
 returns-7 : tie.Need-returns-7
-returns-7 c = rw (c .before .entry4 .given .1)
+returns-7 c = rw (c .before .before .entry4 .given .1, c .access-for2 .ensures)
 
 returns-8 : tie.Need-returns-8
 returns-8 c = search needs
@@ -61,7 +67,9 @@ call-of-spec =
     enum-told-2
     enum-told-3
     enum-known-entry-3
+    access-for-requires
     enum-known-entry-4
+    access-for-requires-2
     enum-told-4
     returns
     returns-2

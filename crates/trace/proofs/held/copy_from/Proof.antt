@@ -1,22 +1,22 @@
 -- The first k counts are copied; a turn copies one more. Assumes nothing.
 use mathlib.Core.Path.{_≡_, refl, sym, _∙_}
-use Prim.Native.Nat.{_-_, _≤_}
+use Prim.Native.Nat.{_+_, _-_, _≤_}
 use native.Mathlib.Omega.{arith}
 use lib.ListN.{length, take, drop}
 use lib.Seq.{take-all}
 use Rattle.trace.proofs.Filled.{one-count}
 use borrow.Author.Needs.{needs}
-use Rattle.trace.proofs.held.counts_from.Statement.{statement}
-use Rattle.trace.proofs.held.counts_from.Tie as tie
+use Rattle.trace.proofs.held.copy_from.Statement.{statement}
+use Rattle.trace.proofs.held.copy_from.Tie as tie
 
 abbrev Inv-loop : tie.InvT-loop
-Inv-loop from values counts₀ k₀ counts k = (k ≤ 16) × (length values ≡ 40) × (length counts ≡ 16) × (take k counts ≡ take k (drop from values))
+Inv-loop from counts₀ values k₀ counts k = (k ≤ length counts₀) × (from + length counts₀ ≤ 40) × (length values ≡ 40) × (length counts ≡ length counts₀) × (take k counts ≡ take k (drop from values))
 
 abbrev μ-loop : tie.MeasureT-loop
-μ-loop from values counts₀ k₀ counts k = 16 - k
+μ-loop from counts₀ values k₀ counts k = length counts₀ - k
 
 loop-holds : tie.Need-loop-holds Inv-loop μ-loop
-loop-holds c = (search needs, search needs, refl, refl)
+loop-holds c = (search needs, search needs, search needs, refl, refl)
 
 add-counts : tie.Need-add-counts Inv-loop μ-loop
 add-counts c = search needs
@@ -30,8 +30,8 @@ array-read-counts c = search needs
 mul-counts-2 : tie.Need-mul-counts-2 Inv-loop μ-loop
 mul-counts-2 c = search needs
 
-array-write-counts : tie.Need-array-write-counts Inv-loop μ-loop
-array-write-counts c = search needs
+slice-write-counts : tie.Need-slice-write-counts Inv-loop μ-loop
+slice-write-counts c = search needs
 
 add-k : tie.Need-add-k Inv-loop μ-loop
 add-k c = search needs
@@ -43,16 +43,19 @@ loop-again : tie.Need-loop-again Inv-loop μ-loop
 loop-again c =
     let l = c .before .loop in
     let a = c .before .before .args in
-    (search needs, l .inv .1, search needs, one-count (a .t1) (l .counts) (a .from) (l .k) (omega arith) (omega arith) (l .inv .3))
+    (search needs, l .inv .1, l .inv .2, search needs, one-count (a .t1) (l .counts) (a .from) (l .k) (omega arith) (omega arith) (l .inv .4))
+
+same-length : tie.Need-same-length Inv-loop μ-loop
+same-length c = search needs
 
 returns : tie.Need-returns Inv-loop μ-loop
 returns c =
     let l = c .before .loop in
-    let e : l .k ≡ 16 = omega arith in
-    sym (take-all 16 (l .counts) (omega arith)) ∙ rw e at (l .inv .3)
+    let e : l .k ≡ length (c .before .before .args .counts .now) = omega arith in
+    sym (take-all (length (c .before .before .args .counts .now)) (l .counts) (omega arith)) ∙ rw e at (l .inv .4)
 
-pub counts-from-spec : {M : Type 1} → statement M
-counts-from-spec =
+pub copy-from-spec : {M : Type 1} → statement M
+copy-from-spec =
     tie.close
     (tie.spec
     Inv-loop
@@ -62,8 +65,9 @@ counts-from-spec =
     mul-counts
     array-read-counts
     mul-counts-2
-    array-write-counts
+    slice-write-counts
     add-k
     loop-less
     loop-again
+    same-length
     returns)
