@@ -40,7 +40,7 @@ module _ (before : V830) (memory : List ℕ) (write : Access) (calls : List Made
     -- "from the Control write": to one of Control's three addresses, and not refused
     pub control : roleOf (call.Access write) ≡ writes
     pub taken : isDone (begun .outcome .answer) ≡ true
-    -- "that set this": "random trigger, AUTO RESET"
+    -- "that set this": "random trigger, AUTO RESET" (of the first nothing is needed below: in another mode no trigger is accepted)
     pub random : mode (begun .outcome .state .control) ≡ 1
     pub reset : isSet 7 (begun .outcome .state .control) ≡ true
     -- up to the next such write, or a CLEAR or a reset, that is not refused

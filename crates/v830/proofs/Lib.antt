@@ -1,5 +1,4 @@
 pub mod Forming
-pub mod Rounds
 pub mod Taking
 pub mod RingLaws
 pub mod Modular

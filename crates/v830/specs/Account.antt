@@ -42,7 +42,7 @@ pub data Role : Type 0 where
   clears : Role
   none : Role
 
--- row by row of the table
+-- row by row of the table: the memory window; Control, Bit Set and Bit Clear; Software Reset and Software Clear; Software Trigger
 abbrev pub roleAt : ℕ → Bool → Role
 roleAt at write =
     cond (eqb at 0) reads
