@@ -24,3 +24,8 @@ both-ways P false u v x y p q = q
 pub by-test : {O : Type 0} (P : O → Type 0) (b : Bool) (x y : O) → (b ≡ true → P x) → (b ≡ false → P y) → P (cond b x y)
 by-test P true x y p q = p refl
 by-test P false x y p q = q refl
+
+-- and the test itself is used
+pub both-by-test : {A O : Type 0} (P : A → O → Type 0) (b : Bool) (u v : A) (x y : O) → (b ≡ true → P u x) → (b ≡ false → P v y) → P (cond b u v) (cond b x y)
+both-by-test P true u v x y p q = p refl
+both-by-test P false u v x y p q = q refl

@@ -1,8 +1,8 @@
 -- The look-up through a list of rows, turn by turn. Assumes nothing.
-use Prim.Native.Nat.{ℕ, suc, _+_, _≤_, _<_}
-use mathlib.Core.Path.{_≡_, refl}
-use mathlib.Core.Bool.{Bool, true, false, _&&_}
-use mathlib.Core.List.{List, [], _∷_}
+use Prim.Native.Nat.{ℕ, _+_, _≤_, _<_}
+use mathlib.Core.Path.{_≡_}
+use mathlib.Core.Bool.{true, false, _&&_}
+use mathlib.Core.List.{List}
 use native.Mathlib.Numerals.{add-one}
 use borrow.Author.Tests.{leb-true}
 use lib.Dec.{leb}
@@ -11,18 +11,13 @@ use lib.Seq.{drop-cons}
 use Rattle.bus.specs.declared.Access.{Access}
 use Rattle.bus.specs.declared.Answer.the-variants.{NotInTable}
 use Rattle.bus.specs.declared.table.Row.{Row}
-use Rattle.bus.specs.declared.table.Register.{Register}
 use Rattle.bus.specs.declared.table.Register.the-variants.{Refused}
 use Rattle.bus.specs.Table.{covers, reach, lookUp}
-
--- the first factor of three that are true
-first-true : (a b c : Bool) → a && b && c ≡ true → a ≡ true
-first-true true b c e = refl
-first-true false b c e = e
+use Rattle.bus.proofs.Places.{left-of}
 
 -- a row's offsets begin with its first
 pub from-first : (r : Row) (o : ℕ) → covers r o ≡ true → r .0 ≤ o
-from-first r o e = leb-true (r .0) o (first-true (leb (r .0) o) _ _ e)
+from-first r o e = leb-true (r .0) o (left-of (leb (r .0) o) _ (left-of (leb (r .0) o && leb o (r .1)) _ e))
 
 module _ (rows : List Row) (i : ℕ) (a : Access) (d : Row) where
   pub found : i < length rows → covers (getD rows i d) (a .offset) ≡ true → lookUp i (drop i rows) a ≡ reach i (getD rows i d) a

@@ -5,14 +5,13 @@ use Prim.Native.Nat.{ℕ, zero, suc, _+_, _*_, _-_, _%_, _^_, _≤_, _<_}
 use mathlib.Core.Path.{_≡_, refl, sym, ap, _∙_}
 use mathlib.Core.Bool.{Bool, true, false, cond}
 use mathlib.Core.List.{List, [], _∷_}
-use native.Mathlib.Nat.{mul-suc, mul-comm, mul-add, mul-le-mul-left, mod-eq-of-lt, mod-self, mod-lt, mod-add-mod, pow-le-pow-right, mul-zero, add-zero}
+use native.Mathlib.Nat.{mul-suc, mul-comm, mul-le-mul-left, mod-eq-of-lt, mod-self, mod-lt, mod-add-mod, mul-zero, add-zero}
 use native.Mathlib.Numerals.{add-one}
 use native.Mathlib.Omega.{arith}
 use native.Mathlib.Decide.{decLt}
 use borrow.Author.Tests.{eqb-true, eqb-false}
-use lib.Dec.{eqb}
 use lib.ListN.{length}
-use lib.Pow.{pow-add}
+use lib.Pow.{pow-add, pow-pos}
 use Rattle.count.specs.Counter.{next, carries, iterate}
 use Rattle.count.specs.Chain.{tickChain, chainValue, Parts}
 
@@ -55,10 +54,6 @@ unfolding tickChain
 length-tick w [] = refl
 length-tick w (x ∷ xs) =
     ap suc (on-carry (λ (l : List ℕ). length l ≡ length xs) (carries w x) (tickChain w xs) xs (λ _. length-tick w xs) (λ _. refl))
-
--- 2 ^ w is above 0
-pow-pos : (w : ℕ) → 0 < 2 ^ w
-pow-pos w = pow-le-pow-right {n = 2} (omega arith) {i = 0} {j = w} (omega arith)
 
 pub parts-tick : (w : ℕ) (xs : List ℕ) → Parts w xs → Parts w (tickChain w xs)
 unfolding tickChain Parts

@@ -3,3 +3,4 @@ pub mod Carry
 pub mod Determined
 pub mod Mapping
 pub mod Repeats
+pub mod Tests

@@ -1,6 +1,6 @@
 -- A head of numbers; docs/FORMATS.md: "A number on standard input is a log number", and a head is refused for a fault "of its numbers" and for
 -- one outside its range, "each as soon as its number is read". Assumes nothing.
-use Prim.Native.Nat.{ℕ, suc, _≤_}
+use Prim.Native.Nat.{ℕ, zero, suc, _≤_}
 use mathlib.Core.Bool.{Bool, true, false}
 use mathlib.Core.List.{List, [], _∷_}
 use mathlib.Core.Path.{_≡_}
@@ -47,3 +47,8 @@ Begun buf limits l =
     (l ≡ record { used = 0; have = l .have; ended = l .ended; base = 0; at = 0; more = true })
     × (l .have ≤ length buf)
     × (l .ended ≡ false → isCut (take (l .have) buf) limits ≡ false)
+
+-- the lent words "are 1, 2, 3 .. at first": n of them, from this one on
+unfoldable pub upFrom : ℕ → ℕ → List ℕ
+upFrom zero word = []
+upFrom (suc n) word = word ∷ upFrom n (suc word)

@@ -5,7 +5,7 @@ use mathlib.Core.List.{List}
 use Prim.Native.Nat.{ℕ, _/_, _%_, _^_, _≤_}
 use native.Mathlib.Omega.{arith}
 use borrow.Author.Tests.{eqb-true, eqb-false, ltb-false, leb-true, eq-eqb, ne-eqb, le-leb, le-ltb}
-use lib.Count.{ones}
+use lib.Count.{onesIn}
 use lib.Dec.{eqb, ltb, leb}
 use lib.ListN.{length, getD, drop}
 use Rattle.layout.specs.declared.Answer.{Answer}
@@ -29,7 +29,7 @@ if-so false x y r d = absurd (false≢true (sym r ∙ d))
 -- ---- the reader
 -- a header that is right: bit 26 one, bits 25 and 24 zero, the number of enabled channels
 abbrev pub GoodHeader : Settings → ℕ → Type 0
-GoodHeader st h = (h / 2 ^ 26 % 2 ≡ 1) × (h / 2 ^ 24 % 4 ≡ 0) × (h / 2 ^ 18 % 64 ≡ ones (st .enable))
+GoodHeader st h = (h / 2 ^ 26 % 2 ≡ 1) × (h / 2 ^ 24 % 4 ≡ 0) × (h / 2 ^ 18 % 64 ≡ onesIn 32 (st .enable))
 
 header-done : (st : Settings) (h : ℕ) (rest : Answer) → isDone (headerAnswer st h rest) ≡ true → GoodHeader st h × (isDone rest ≡ true)
 header-done st h rest d =
@@ -37,7 +37,7 @@ header-done st h rest d =
     let a = if-so (eqb (h / 2 ^ 26 % 2) 1) _ NotAHeader refl d in
     let b = if-so (eqb (h / 2 ^ 24 % 4) 0) _ Bits25And24 refl (a .1) in
     let e = if-so (leb n 32) _ CountAbove32 refl (b .1) in
-    let f = if-so (eqb n (ones (st .enable))) rest AnotherCount refl (e .1) in
+    let f = if-so (eqb n (onesIn 32 (st .enable))) rest AnotherCount refl (e .1) in
     ((eqb-true _ _ (a .0), eqb-true _ _ (b .0), eqb-true _ _ (f .0)), f .1)
 
 -- the words reach to the event's end, and in the short format the data are right
@@ -62,7 +62,7 @@ read-done st ws d =
     go false d = ((λ t. absurd (false≢true t)), d)
 
 -- and the other way round: with nothing wrong, the reader is done
-pub reads-done : (st : Settings) (ws : List ℕ) → ones (st .enable) ≤ 32 → (eventLength st ≡ 0 → ⊥) → eventLength st ≤ length ws
+pub reads-done : (st : Settings) (ws : List ℕ) → onesIn 32 (st .enable) ≤ 32 → (eventLength st ≡ 0 → ⊥) → eventLength st ≤ length ws
     → (st .header ≡ true → GoodHeader st (getD ws 0 0))
     → (st .short ≡ true → dataAnswer (enabledChannels (st .enable)) (drop (headerLength st) ws) (done st) ≡ done st)
     → readAnswer st ws ≡ done st

@@ -4,7 +4,6 @@ use mathlib.Core.Bool.{Bool, true, false}
 use mathlib.Core.List.{List, _∷_}
 use Prim.Native.Nat.{ℕ, _+_, _/_, _%_, _^_, _≤_, _<_}
 use native.Mathlib.Numerals.{add-one}
-use native.Mathlib.Omega.{arith}
 use borrow.Author.Tests.{eq-eqb, ne-eqb}
 use lib.ListN.{length, getD, set, drop, drop-of-length-le}
 use lib.Seq.{drop-cons}
@@ -13,7 +12,7 @@ use Rattle.layout.specs.declared.Answer.the-variants.{DatumWithBit26, An
 use Rattle.layout.specs.Length.{enabledChannels}
 use Rattle.layout.specs.Reader.{dataAnswer, countIn, countsIn}
 use Rattle.layout.specs.Writer.{countFits, countsFit}
-use Rattle.layout.proofs.Turns.{Left, left-more, left-turn, left-over}
+use Rattle.layout.proofs.Turns.{Left, left-turn, left-step, left-over}
 
 -- ---- the answer of the data: 23, 24, or on to the next datum
 module _ (rest : Answer) {whole : Answer} {ws : List ℕ} {at left : ℕ} (e : Left (λ ks us. dataAnswer ks us rest) whole ws at left) where
@@ -29,11 +28,7 @@ module _ (rest : Answer) {whole : Answer} {ws : List ℕ} {at left : ℕ} (e : L
 
       pub data-next : getD ws at 0 / 2 ^ 27 ≡ k → Left (λ ks us. dataAnswer ks us rest) whole ws (at + 1) after
       unfolding dataAnswer
-      data-next b =
-          record {
-            same = rw (eq-eqb _ _ z, eq-eqb _ _ b) at (left-turn e k after n);
-            room = let h : at + length (k ∷ enabledChannels after) ≤ length ws = left-more e k after n in omega arith;
-          }
+      data-next b = left-step e k after n _ (rw (eq-eqb _ _ z, eq-eqb _ _ b) at (left-turn e k after n))
 
   pub data-over : left ≡ 0 → rest ≡ whole
   unfolding dataAnswer
@@ -44,11 +39,7 @@ module _ (short : Bool) (counts : List ℕ) {whole ws : List ℕ} {at left : ℕ
   pub counts-next : (k after : ℕ) → enabledChannels left ≡ k ∷ enabledChannels after
       → Left (λ ks us. countsIn short ks us (set counts k (countIn short (getD ws at 0)))) whole ws (at + 1) after
   unfolding countsIn
-  counts-next k after n =
-      record {
-        same = left-turn e k after n;
-        room = let h : at + length (k ∷ enabledChannels after) ≤ length ws = left-more e k after n in omega arith;
-      }
+  counts-next k after n = left-step e k after n _ (left-turn e k after n)
 
   pub counts-over : left ≡ 0 → counts ≡ whole
   unfolding countsIn

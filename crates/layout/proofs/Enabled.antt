@@ -5,7 +5,7 @@ use Prim.Native.Nat.{ℕ, zero, suc, _+_, _-_, _*_, _/_, _%_, _^_, _≤_, _<_}
 use native.Mathlib.Nat.{add-suc, suc-add, add-zero, pow-suc, zero-add, one-mul}
 use native.Mathlib.Omega.{arith}
 use lib.Arith.{lt-one}
-use lib.Count.{ones, ones-step, trailingZeros, under}
+use lib.Count.{onesIn, ones, ones-step, trailingZeros, under}
 use lib.ListN.{length}
 use lib.Pow.{pow-pos, shl-exact}
 use Rattle.layout.specs.Length.{put, enabledFrom, enabledChannels}
@@ -16,13 +16,23 @@ length-put (suc zero) k ks h = omega arith
 length-put (suc (suc b)) k ks h = absurd (omega arith)
 
 -- they are as many as the mask has ones
-pub length-enabled : (d k m : ℕ) → m < 2 ^ d → length (enabledFrom d k m) ≡ ones m
-unfolding enabledFrom ones
-length-enabled zero k m h = rw (lt-one h)
-length-enabled (suc d) k m h =
-    length-put (m % 2) k (enabledFrom d (suc k) (m / 2)) (omega arith)
-    ∙ ap (λ (n : ℕ). m % 2 + n) (length-enabled d (suc k) (m / 2) (omega (arith, pow-suc 2 d)))
-    ∙ sym (ones-step m)
+pub length-enabled : (d k m : ℕ) → length (enabledFrom d k m) ≡ onesIn d m
+unfolding enabledFrom onesIn
+length-enabled zero k m = refl
+length-enabled (suc d) k m =
+    length-put (m % 2) k (enabledFrom d (suc k) (m / 2)) (omega arith) ∙ ap (λ (n : ℕ). m % 2 + n) (length-enabled d (suc k) (m / 2))
+
+-- d bits have at most d ones
+pub ones-in-le : (d m : ℕ) → onesIn d m ≤ d
+unfolding onesIn
+ones-in-le zero m = omega arith
+ones-in-le (suc d) m = omega (arith, ones-in-le d (m / 2))
+
+-- all the ones of a number of d bits
+pub ones-all : (d m : ℕ) → m < 2 ^ d → ones m ≡ onesIn d m
+unfolding ones onesIn
+ones-all zero m h = rw (lt-one h)
+ones-all (suc d) m h = ones-step m ∙ ap (λ (n : ℕ). m % 2 + n) (ones-all d (m / 2) (omega (arith, pow-suc 2 d)))
 
 -- no ones, no channels
 pub enabled-none : (d k : ℕ) → enabledFrom d k 0 ≡ []

@@ -4,7 +4,6 @@ pub mod Enabled
 pub mod Halves
 pub mod Lengths
 pub mod NoFurther
-pub mod Permitted
 pub mod ReadAgain
 pub mod Refusals
 pub mod Turns

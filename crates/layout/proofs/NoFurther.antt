@@ -1,15 +1,16 @@
 -- The reader looks at no word after the event: whatever stands behind as many words as an event has, the reading is the same. Assumes nothing.
-use mathlib.Core.Path.{_≡_, refl}
+use mathlib.Core.Path.{_≡_, refl, sym}
 use mathlib.Core.Bool.{Bool, true, false}
 use mathlib.Core.List.{List, [], _∷_, _++_}
-use Prim.Native.Nat.{ℕ, _+_, _^_, _≤_, _<_}
+use Prim.Native.Nat.{ℕ, _^_, _≤_, _<_}
 use native.Mathlib.Omega.{arith}
 use borrow.Author.Tests.{le-ltb, eq-eqb, ne-eqb}
-use lib.Count.{ones}
-use lib.ListN.{length, set, replicate, length-append}
+use lib.Count.{onesIn}
+use lib.ListN.{length, set, drop, replicate, length-append, length-drop}
+use lib.Seq.{drop-append-le}
 use Rattle.layout.specs.declared.Answer.{Answer}
 use Rattle.layout.specs.declared.Settings.{Settings}
-use Rattle.layout.specs.Length.{eventLength, enabledChannels}
+use Rattle.layout.specs.Length.{eventLength, headerLength, enabledChannels}
 use Rattle.layout.specs.Numbers.{done}
 use Rattle.layout.specs.Reader.{dataAnswer, bodyAnswer, readAnswer, countIn, countsIn, eventIn, readOf}
 use Rattle.layout.proofs.Enabled.{length-enabled}
@@ -28,35 +29,30 @@ counts-no-further short (k ∷ ks) [] rest cs l = absurd (omega arith)
 counts-no-further short (k ∷ ks) (w ∷ ws) rest cs l = counts-no-further short ks ws rest (set cs k (countIn short w)) (omega arith)
 
 module _ (short : Bool) (x : ℕ) (b : x < 2 ^ 32) (rest : List ℕ) where
-  n : length (enabledChannels x) ≡ ones x
-  n = length-enabled 32 0 x b
+  n : length (enabledChannels x) ≡ onesIn 32 x
+  n = length-enabled 32 0 x
+
+  -- there is a word behind the header for each channel
+  behind : (header : Bool) (ws : List ℕ) → length ws ≡ eventLength (settings header short x) → length (enabledChannels x) ≤ length (drop (headerLength (settings header short x)) ws)
+  behind header ws e = rw length-drop (omega (arith, n))
 
   body-no-further : (header : Bool) (ws : List ℕ) → length ws ≡ eventLength (settings header short x)
       → bodyAnswer (settings header short x) (ws ++ rest) ≡ bodyAnswer (settings header short x) ws
   unfolding bodyAnswer
-  body-no-further true [] e = absurd (omega arith)
-  body-no-further true (h ∷ us) e =
+  body-no-further header ws e =
       rw (
-        le-ltb (length (h ∷ us ++ rest)) (eventLength (settings true short x)) (omega (arith, length-append us rest)),
-        le-ltb (length (h ∷ us)) (eventLength (settings true short x)) (omega arith),
-        data-no-further (enabledChannels x) us rest (done (settings true short x)) (omega (arith, n)),
-      )
-  body-no-further false ws e =
-      rw (
-        le-ltb (length (ws ++ rest)) (eventLength (settings false short x)) (omega (arith, length-append ws rest)),
-        le-ltb (length ws) (eventLength (settings false short x)) (omega arith),
-        data-no-further (enabledChannels x) ws rest (done (settings false short x)) (omega (arith, n)),
+        le-ltb (length (ws ++ rest)) (eventLength (settings header short x)) (omega (arith, length-append ws rest)),
+        le-ltb (length ws) (eventLength (settings header short x)) (omega arith),
+        drop-append-le (headerLength (settings header short x)) ws rest (omega arith),
+        data-no-further (enabledChannels x) (drop (headerLength (settings header short x)) ws) rest (done (settings header short x)) (behind header ws e),
       )
 
   answer-no-further : (header : Bool) (ws : List ℕ) → length ws ≡ eventLength (settings header short x)
       → readAnswer (settings header short x) (ws ++ rest) ≡ readAnswer (settings header short x) ws
   unfolding readAnswer
-  answer-no-further true [] e = absurd (omega arith)
-  answer-no-further true (h ∷ us) e =
-      rw (ne-eqb (length (h ∷ us ++ rest)) 0 (λ z. omega arith), ne-eqb (length (h ∷ us)) 0 (λ z. omega arith), body-no-further true (h ∷ us) e)
-  answer-no-further false [] e = rw (eq-eqb (eventLength (settings false short x)) 0 (omega arith))
-  answer-no-further false (w ∷ us) e =
-      rw (ne-eqb (length (w ∷ us ++ rest)) 0 (λ z. omega arith), ne-eqb (length (w ∷ us)) 0 (λ z. omega arith), body-no-further false (w ∷ us) e)
+  answer-no-further header [] e = rw (eq-eqb (eventLength (settings header short x)) 0 (sym e))
+  answer-no-further header (w ∷ us) e =
+      rw (ne-eqb (length (w ∷ us ++ rest)) 0 (λ z. omega arith), ne-eqb (length (w ∷ us)) 0 (λ z. omega arith), body-no-further header (w ∷ us) e)
 
   event-no-further : (header : Bool) (ws : List ℕ) → length ws ≡ eventLength (settings header short x)
       → eventIn (settings header short x) (ws ++ rest) ≡ eventIn (settings header short x) ws

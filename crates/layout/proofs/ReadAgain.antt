@@ -8,10 +8,11 @@ use mathlib.Core.List.{List, [], _∷_, _++_}
 use Prim.Native.Nat.{ℕ, zero, suc, _+_, _*_, _/_, _%_, _^_, _≤_, _<_}
 use native.Mathlib.Omega.{arith}
 use borrow.Author.Tests.{eq-eqb, eqb-true, ltb-true}
-use lib.Count.{ones, ones-le}
+use lib.Count.{onesIn}
 use lib.Dec.{ltb}
 use lib.ListN.{length, getD, drop, replicate, length-append, length-map}
 use Rattle.layout.specs.declared.Answer.{Answer}
+use Rattle.layout.proofs.Enabled.{ones-in-le}
 use Rattle.layout.specs.declared.Event.{Event}
 use Rattle.layout.specs.declared.Settings.{Settings}
 use Rattle.layout.specs.Layout.{headerOf, datumOf, dataOf, eventWords}
@@ -65,7 +66,7 @@ body-again short x cs rest l f =
     ∙ rw l at (counts-again short 0 x cs rest f)
 
 -- ---- the header
-module _ (st : Settings) (ev : Event) (o : ones (st .enable) ≤ 32) (f : (ev .geo ≤ 31) × (ev .source ≤ 3) × (ev .trigger ≤ 65535)) where
+module _ (st : Settings) (ev : Event) (o : onesIn 32 (st .enable) ≤ 32) (f : (ev .geo ≤ 31) × (ev .source ≤ 3) × (ev .trigger ≤ 65535)) where
   header-good : GoodHeader st (headerOf st ev)
   header-good = (omega (arith, f), omega (arith, f), omega (arith, f))
 
@@ -78,7 +79,7 @@ event-again : (header short : Bool) (x : ℕ) (ev : Event) (rest : List ℕ) →
 unfolding eventIn
 event-again true short x ev rest h l w =
     let p = writable-parts (settings true short x) ev w in
-    let f = fields-again (settings true short x) ev (ones-le 32 x h) (fields-fit ev (p .0)) in
+    let f = fields-again (settings true short x) ev (ones-in-le 32 x) (fields-fit ev (p .0)) in
     rw (f .0, f .1, f .2, body-again short x (ev .counts) rest l (p .2))
 event-again false short x ev rest h l w =
     let p = writable-parts (settings false short x) ev w in
@@ -94,10 +95,10 @@ answer-again : (header short : Bool) (x : ℕ) (ev : Event) (rest : List ℕ) �
 answer-again header short x ev rest h s w =
     let st : Settings = settings header short x in
     let n = length-append (eventWords st ev) rest in
-    reads-done st (eventWords st ev ++ rest) (ones-le 32 x h) s (omega (arith, n, words-length st ev h)) (first header w) (behind header)
+    reads-done st (eventWords st ev ++ rest) (ones-in-le 32 x) s (omega (arith, n, words-length st ev h)) (first header w) (behind header)
   where
     first : (t : Bool) → writable (settings t short x) ev ≡ true → t ≡ true → GoodHeader (settings t short x) (getD (eventWords (settings t short x) ev ++ rest) 0 0)
-    first true v e = header-good (settings true short x) ev (ones-le 32 x h) (fields-fit ev (writable-parts (settings true short x) ev v .0))
+    first true v e = header-good (settings true short x) ev (ones-in-le 32 x) (fields-fit ev (writable-parts (settings true short x) ev v .0))
     first false v e = absurd (false≢true e)
 
     behind : (t : Bool) → short ≡ true

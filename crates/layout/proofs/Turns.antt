@@ -20,7 +20,7 @@ pub record Left {A : Type 0} (f : List ℕ → List ℕ → A) (whole : A) (ws :
 module _ {A : Type 0} {f : List ℕ → List ℕ → A} {whole : A} {ws : List ℕ} {at left : ℕ} (e : Left f whole ws at left) where
   -- k is the next channel, and `after` the mask of those behind it
   module _ (k after : ℕ) (n : enabledChannels left ≡ k ∷ enabledChannels after) where
-    pub left-more : at + length (k ∷ enabledChannels after) ≤ length ws
+    left-more : at + length (k ∷ enabledChannels after) ≤ length ws
     left-more = rw n at (e .room)
 
     pub left-room : at < length ws
@@ -29,13 +29,17 @@ module _ {A : Type 0} {f : List ℕ → List ℕ → A} {whole : A} {ws : List �
     pub left-turn : f (k ∷ enabledChannels after) (getD ws at 0 ∷ drop (at + 1) ws) ≡ whole
     left-turn = rw add-one (rw (n, drop-cons ws at 0 left-room) at (e .same))
 
+    -- what is the whole of what is left behind it
+    pub left-step : (g : List ℕ → List ℕ → A) → g (enabledChannels after) (drop (at + 1) ws) ≡ whole → Left g whole ws (at + 1) after
+    left-step g s = record { same = s; room = omega (arith, left-more) }
+
   pub left-over : left ≡ 0 → f [] (drop at ws) ≡ whole
   left-over z = rw (z, enabled-none) at (e .same)
 
 -- before the first turn: the words are those behind the header
 pub left-start : {A : Type 0} (f : List ℕ → List ℕ → A) (st : Settings) (ws : List ℕ) (at : ℕ) → st .enable < 2 ^ 32 → eventLength st ≤ length ws → at ≡ headerLength st
     → Left f (f (enabledChannels (st .enable)) (drop (headerLength st) ws)) ws at (st .enable)
-left-start f st ws at h l e = record { same = rw e; room = rw e (omega (arith, length-enabled 32 0 (st .enable) h)) }
+left-start f st ws at h l e = record { same = rw e; room = rw e (omega (arith, length-enabled 32 0 (st .enable))) }
 
 -- ---- writing: the data left, stored from `at` on, give the whole
 pub record Putting (short : Bool) (counts whole ws : List ℕ) (at left : ℕ) : Type 0 where

@@ -6,7 +6,7 @@ use Prim.Native.Nat.{ℕ, _+_, _^_, _≤_, _<_}
 use native.Mathlib.Nat.{zero-add}
 use native.Mathlib.Omega.{arith}
 use borrow.Author.Tests.{ne-eqb, le-ltb}
-use lib.Count.{ones}
+use lib.Count.{onesIn}
 use lib.ListN.{length, getD, drop, length-map}
 use lib.Seq.{sets, sets-eq}
 use Rattle.layout.specs.declared.Event.{Event}
@@ -19,9 +19,9 @@ use Rattle.layout.proofs.Enabled.{length-enabled}
 
 -- an event has as many words as its length says
 pub words-length : (st : Settings) (ev : Event) → st .enable < 2 ^ 32 → length (eventWords st ev) ≡ eventLength st
-words-length st ev h = go (st .header) _ (length-map (enabledChannels (st .enable)) (λ k. datumOf (st .short) k (getD (ev .counts) k 0)) ∙ length-enabled 32 0 (st .enable) h)
+words-length st ev h = go (st .header) _ (length-map (enabledChannels (st .enable)) (λ k. datumOf (st .short) k (getD (ev .counts) k 0)) ∙ length-enabled 32 0 (st .enable))
   where
-    go : (t : Bool) (body : List ℕ) → length body ≡ ones (st .enable) → length (cond t (headerOf st ev ∷ body) body) ≡ ones (st .enable) + cond t 1 0
+    go : (t : Bool) (body : List ℕ) → length body ≡ onesIn 32 (st .enable) → length (cond t (headerOf st ev ∷ body) body) ≡ onesIn 32 (st .enable) + cond t 1 0
     go true body n = omega arith
     go false body n = omega arith
 

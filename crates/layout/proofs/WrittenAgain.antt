@@ -11,7 +11,7 @@ use native.Mathlib.Numerals.{add-one}
 use native.Mathlib.Nat.{add-zero}
 use native.Mathlib.Omega.{arith}
 use borrow.Author.Tests.{eqb-true, ne-eqb, le-leb, lt-ltb}
-use lib.Count.{ones, ones-le}
+use lib.Count.{onesIn}
 use lib.Dec.{eqb}
 use lib.ListN.{length, getD, take, drop, replicate}
 use Rattle.layout.specs.declared.Answer.{Answer}
@@ -23,7 +23,7 @@ use Rattle.layout.specs.Numbers.{done, isDone}
 use Rattle.layout.specs.Reader.{datumAnswer, dataAnswer, readAnswer, countIn, countsIn, eventIn, readOf}
 use Rattle.layout.specs.Writer.{countFits, countsFit, writable, writeAnswer, writeWords}
 use Rattle.layout.proofs.Answers.{GoodHeader, if-so, read-done, body-done, reads-done}
-use Rattle.layout.proofs.Enabled.{length-enabled}
+use Rattle.layout.proofs.Enabled.{length-enabled, ones-in-le}
 use Rattle.layout.proofs.Halves.{settings, dataFrom, countFirst, countsFrom, length-counts, data-from, counts-from}
 use Rattle.layout.proofs.Written.{write-answers, write-leaves}
 
@@ -119,8 +119,8 @@ header-again h o p q r = go (h / 2 ^ 16) (h / 2 ^ 18) (h / 2 ^ 24) (h / 2 ^ 26) 
 
 -- ---- the event
 module _ (short : Bool) (x : ℕ) (b : x < 2 ^ 32) where
-  n : length (enabledChannels x) ≡ ones x
-  n = length-enabled 32 0 x b
+  n : length (enabledChannels x) ≡ onesIn 32 x
+  n = length-enabled 32 0 x
 
   can-again : (header : Bool) (ws : List ℕ) → getD ws 0 0 < 2 ^ 32 → eventLength (settings header short x) ≤ length ws
       → writable (settings header short x) (eventIn (settings header short x) ws) ≡ true
@@ -139,7 +139,7 @@ module _ (short : Bool) (x : ℕ) (b : x < 2 ^ 32) where
   words-again true [] f l g d = absurd (omega arith)
   words-again true (h ∷ us) f l g d =
       let q = g refl in
-      rw add-one (ap₂ (λ (y : ℕ) (ys : List ℕ). y ∷ ys) (header-again h (ones x) (q .0) (q .1) (q .2)) (body-again short x us (omega (arith, n)) _ d ∙ ap (λ (k : ℕ). take k us) n))
+      rw add-one (ap₂ (λ (y : ℕ) (ys : List ℕ). y ∷ ys) (header-again h (onesIn 32 x) (q .0) (q .1) (q .2)) (body-again short x us (omega (arith, n)) _ d ∙ ap (λ (k : ℕ). take k us) n))
   words-again false ws f l g d = rw add-zero (body-again short x ws (omega (arith, n)) _ d ∙ ap (λ (k : ℕ). take k ws) n)
 
 -- ---- the theorem
@@ -153,7 +153,7 @@ read-writes-again st ws lent b w d r =
     let q = body-done st ws (p .2) in
     let can : writable st (eventIn st ws) ≡ true = can-again (st .short) (st .enable) b (st .header) ws (w 0) (q .0) in
     let same : eventWords st (eventIn st ws) ≡ take (eventLength st) ws = words-again (st .short) (st .enable) b (st .header) ws (w 0) (q .0) (p .1) (q .1) in
-    let a : readAnswer st ws ≡ done st = reads-done st ws (ones-le 32 (st .enable) b) (p .0) (q .0) (p .1) (good (st .short) (q .1)) in
+    let a : readAnswer st ws ≡ done st = reads-done st ws (ones-in-le 32 (st .enable)) (p .0) (q .0) (p .1) (good (st .short) (q .1)) in
     rw d (write-answers st (eventIn st ws) lent (p .0) can r ∙ sym a, write-leaves st (eventIn st ws) lent (p .0) can r ∙ ap (λ (us : List ℕ). us ++ drop (eventLength st) lent) same)
   where
     good : (t : Bool) → isDone (cond t (dataAnswer (enabledChannels (st .enable)) (drop (headerLength st) ws) (done st)) (done st)) ≡ true

@@ -2,7 +2,7 @@
 use Prim.Native.Nat.{ℕ, zero, suc, _+_, _/_, _%_}
 use mathlib.Core.Bool.{cond}
 use mathlib.Core.List.{List, [], _∷_}
-use lib.Count.{ones}
+use lib.Count.{onesIn}
 use lib.Dec.{eqb}
 use Rattle.layout.specs.declared.Events.{Events}
 use Rattle.layout.specs.declared.Settings.{Settings}
@@ -36,7 +36,7 @@ headerLength st = cond (st .header) 1 0
 
 -- "Event length in words is the number of ones in it, plus 1 with header"
 abbrev pub eventLength : Settings → ℕ
-eventLength st = ones (st .enable) + headerLength st
+eventLength st = onesIn 32 (st .enable) + headerLength st
 
 -- "MEB Event Number is stored words divided by event length, rounded up, 0 if none"; 8, where "the event would have no words"
 abbrev pub roundedUp : ℕ → ℕ → ℕ

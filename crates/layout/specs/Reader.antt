@@ -3,7 +3,7 @@
 use Prim.Native.Nat.{ℕ, _/_, _%_, _^_}
 use mathlib.Core.Bool.{Bool, cond}
 use mathlib.Core.List.{List, [], _∷_}
-use lib.Count.{ones}
+use lib.Count.{onesIn}
 use lib.Dec.{eqb, ltb, leb}
 use lib.ListN.{length, getD, set, drop, replicate}
 use Rattle.layout.specs.declared.Answer.{Answer}
@@ -22,7 +22,7 @@ headerAnswer st header rest =
     cond (eqb (header / 2 ^ 26 % 2) 1)
     (cond (eqb (header / 2 ^ 24 % 4) 0)
     (cond (leb count 32)
-    (cond (eqb count (ones (st .enable))) rest
+    (cond (eqb count (onesIn 32 (st .enable))) rest
     AnotherCount)
     CountAbove32)
     Bits25And24)

@@ -1,5 +1,7 @@
 // Event blocks of the V830: one layout, written and read. Knows no module.
 ghost use mathlib.Core.Path.{_≡_};
+ghost use Prim.Native.Nat.{_≤_};
+ghost use lib.Count.{onesIn};
 ghost use Rattle.layout.specs.Length.{words, eventLength, eventsIn};
 ghost use Rattle.layout.specs.Numbers.{replyOf};
 
@@ -93,11 +95,18 @@ fn refused(number: u32) -> Reply
     Reply { number, value: 0 }
 }
 
+// How many channels are enabled: the ones of Channel Enable.
+pub(crate) fn enabled_channels(enable: u32) -> u32
+    ensures { λ r. ⌜ (r ≡ onesIn 32 enable) × (r ≤ 32) ⌝ }
+{
+    u32::count_ones(enable)
+}
+
 // The length of an event: the ones of Channel Enable, plus 1 with header.
 pub fn event_length(settings: Settings) -> Words
     ensures { λ r. ⌜ r ≡ words (eventLength settings) ⌝ }
 {
-    let ones = u32::count_ones(settings.enable);
+    let ones = enabled_channels(settings.enable);
     if settings.header {
         return Words(ones + 1);
     }

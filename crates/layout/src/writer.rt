@@ -10,6 +10,7 @@ use crate::Answer;
 use crate::Event;
 use crate::Settings;
 use crate::channels::next_channel;
+use crate::enabled_channels;
 use crate::event_length;
 
 // Writes an event to lent words: its own words and no others, none where it refuses.
@@ -131,7 +132,7 @@ fn header(settings: Settings, event: Event) -> u32
     ensures { λ r. ⌜ r ≡ headerOf settings event ⌝ }
 {
     let geo = event.geo;
-    let ones = u32::count_ones(settings.enable);
+    let ones = enabled_channels(settings.enable);
     let source = event.source;
     let trigger = event.trigger;
     (geo << 27) + (1 << 26) + (ones << 18) + (source << 16) + trigger

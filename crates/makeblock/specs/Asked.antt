@@ -1,7 +1,7 @@
 -- What a head asks for; docs/FORMATS.md: "a head of 39 numbers, `header` (0 or 1), `short` (0 or 1), `enable`, `room` (0 to 64), `geo`, `source`,
 -- `trigger`, and the counts `c0` to `c31`". Assumes nothing.
-use Prim.Native.Nat.{ℕ, zero, suc, _-_, _^_}
-use mathlib.Core.List.{List, [], _∷_}
+use Prim.Native.Nat.{ℕ, _-_, _^_}
+use mathlib.Core.List.{List, _∷_}
 use lib.ListN.{getD, take, drop, replicate}
 use Rattle.head.specs.declared.Head.{Head}
 use Rattle.layout.specs.declared.Event.{Event}
@@ -15,8 +15,3 @@ abbrev pub eventOf : Head → Event
 eventOf head =
     let values : List ℕ = head .values in
     record { geo = getD values 4 0; source = getD values 5 0; trigger = getD values 6 0; counts = take 32 (drop 7 values) }
-
--- n numbers from k on: the lent words "are 1, 2, 3 .. at first"
-unfoldable pub upFrom : ℕ → ℕ → List ℕ
-upFrom zero k = []
-upFrom (suc n) k = k ∷ upFrom n (suc k)

@@ -1,7 +1,8 @@
 // Writes one event of a V830 to lent words and shows them.
 ghost use mathlib.Core.Path.{_≡_};
 ghost use Prim.Native.Nat.{_≤_};
-ghost use Rattle.makeblock.specs.Asked.{limitsOf, eventOf, upFrom};
+ghost use Rattle.head.specs.Heads.{upFrom};
+ghost use Rattle.makeblock.specs.Asked.{limitsOf, eventOf};
 use head::Head;
 use layout::Event;
 use layout::Settings;

@@ -2,9 +2,9 @@
 use Prim.Native.Nat.{ℕ, zero, suc, _+_, _*_, _%_, _^_}
 use mathlib.Core.Path.{_≡_, refl, sym, ap, _∙_}
 use mathlib.Core.List.{List}
-use native.Mathlib.Nat.{zero-add, mul-zero, pow-le-pow-right}
-use native.Mathlib.Omega.{arith}
+use native.Mathlib.Nat.{zero-add, mul-zero}
 use lib.ListN.{length, length-map, replicate}
+use lib.Pow.{pow-pos}
 use Rattle.count.specs.Counter.{iterate}
 use Rattle.count.specs.Chain.{tickChain, chainValue, Parts}
 use Rattle.count.proofs.Carry.{chain-ticks}
@@ -39,7 +39,7 @@ module _ (w : ℕ) (run : List ℕ) where
 pub zero-parts : (w n : ℕ) → Parts w (replicate n 0)
 unfolding Parts
 zero-parts w zero = tt
-zero-parts w (suc n) = (pow-le-pow-right {n = 2} (omega arith) {i = 0} {j = w} (omega arith), zero-parts w n)
+zero-parts w (suc n) = (pow-pos w, zero-parts w n)
 
 pub zero-held : (w n : ℕ) → chainValue w (replicate n 0) ≡ 0
 unfolding chainValue

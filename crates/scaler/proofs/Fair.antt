@@ -27,17 +27,18 @@ use Rattle.scaler.specs.declared.Order.{Order}
 use Rattle.scaler.specs.declared.Order.the-variants as order
 use Rattle.scaler.specs.declared.Scales.{Scales}
 use Rattle.scaler.specs.Orders.{inhibited, counting}
-use Rattle.scaler.proofs.Admitted.{reaches, pulsesTo, admittedOf, clears, noClear}
-use Rattle.bus.proofs.Choices.{cond-same, and-false}
+use Rattle.scaler.specs.Admitted.{reaches, pulsesTo, admittedOf, clears, noClear}
+use Rattle.bus.proofs.Choices.{cond-same, and-false, by-test}
 use Rattle.scaler.proofs.Counted.{Counted, counted-none, counted-then, counted-held, held, zero-parts, zero-held}
 use Rattle.scaler.proofs.Runs.{or-right, countsOf}
 
--- a module: its states S and outcomes O, its table, any call, one pulse on an input
-pub record Module (S O : Type 0) : Type 0 where
+-- a module: its states S and outcomes O, the switches J that join its channels, its table, any call, one pulse on an input
+pub record Module (S O J : Type 0) : Type 0 where
   pub answer : O → Answer
   pub state : O → S
   pub interrupter : O → Interrupter
   pub scales : S → Scales
+  pub joins : S → J
   pub registers : List Row
   pub step : S → Interrupter → Call → O
   pub pulse : ℕ → O → O
@@ -71,10 +72,25 @@ pub record Module (S O : Type 0) : Type 0 where
   pub access-is : (s : S) (i : Interrupter) (a : Access)
       → step s i (call.Access a) ≡ cond (formed s i) (byTable (λ why. refused why s i) (λ at place. performed at place s i a) (lookUp 0 registers a)) (refused Malformed s i)
 
-module _ {S O : Type 0} (m : Module S O) where
+module _ {S O J : Type 0} (m : Module S O J) where
   -- the counts of a state
   abbrev pub countsIn : S → List ℕ
   countsIn s = m .scales s .counts
+
+  -- a call that leaves the switches and the counts
+  abbrev pub Quiet : S → O → Type 0
+  Quiet s o = (m .joins (m .state o) ≡ m .joins s) × (countsIn (m .state o) ≡ countsIn s)
+
+  -- what a row does: Scale Increase, a clear access, or what leaves switches and counts
+  pub data Does (s : S) (i : Interrupter) : Bool → Bool → O → Type 0 where
+    increases : Does s i true false (m .tested s i)
+    clearing : (o : O) → m .answer o ≡ Done 0 → Does s i false true o
+    stays : (v : ℕ) (o : O) → m .answer o ≡ Done v → Quiet s o → Does s i false false o
+
+  -- that an access does at the row that it reaches: 1 is Scale Increase, 4 the clear access
+  abbrev pub Reached : S → Interrupter → Access → Register → Type 0
+  Reached s i a (Refused why) = Unit {0}
+  Reached s i a (At at place) = Does s i (eqb at 1) (eqb at 4) (m .performed at place s i a)
 
   -- a list of calls, one after the other
   abbrev pub calledOf : List Call → O → O
@@ -107,10 +123,6 @@ module _ {S O : Type 0} (m : Module S O) where
     -- an outcome in which the scale was ticked as often as pulses were admitted of the p that the call brought
     abbrev pub Fair : ℕ → S → O → Type 0
     Fair p s o = Fit (m .state o) × Counted w run (admittedOf (m .answer o) (m .scales s) p) (countsIn s) (countsIn (m .state o))
-
-    pub fair-cond : (p : ℕ) (s : S) (b : Bool) (x y : O) → (b ≡ true → Fair p s x) → (b ≡ false → Fair p s y) → Fair p s (cond b x y)
-    fair-cond p s true x y t e = t refl
-    fair-cond p s false x y t e = e refl
 
     pub fair-quiet : (s : S) (o : O) → Fit (m .state o) → countsIn (m .state o) ≡ countsIn s → Fair 0 s o
     fair-quiet s o g q = (g, rw cond-same (subst (Counted w run 0 (countsIn s)) (sym q) (counted-none w run (countsIn s))))
@@ -174,12 +186,11 @@ module _ {S O : Type 0} (m : Module S O) where
               let t = often (λ l. l) (λ a l. c .other-stays (m .state a) x (l .2) h (eqb-false x f r) (or-right (inhibited (m .scales (m .state a))) (m .ignores (m .state a) x) (l .1))) n o (d, rw (p, q), g) in
               (t .0 .2, rw cond-same (record { size = grown (t .0 .2); ticks = t .1 ∙ iterate-same n (seen o) }))
 
-    -- what a module must show of its own calls: the front line and every row but Scale Increase and the clear access leave the counts, and TEST is fair
+    -- what a module must show of its own calls: the front line leaves switches and counts, what each row does, and TEST is fair
     pub record Own : Type 0 where
-      pub line-stays : (s : S) (i : Interrupter) (on : Bool) → Fit s → Fit (m .state (m .ordered (order.VetoLine on) s i)) × (countsIn (m .state (m .ordered (order.VetoLine on) s i)) ≡ countsIn s)
-      pub row-stays : (at place : ℕ) (s : S) (i : Interrupter) (a : Access) → Fit s → eqb at 1 ≡ false → eqb at 4 ≡ false
-          → Fit (m .state (m .performed at place s i a)) × (countsIn (m .state (m .performed at place s i a)) ≡ countsIn s)
-      pub increase-is : (place : ℕ) (s : S) (i : Interrupter) (a : Access) → m .performed 1 place s i a ≡ m .tested s i
+      pub fit-stays : (s t : S) → m .joins t ≡ m .joins s → countsIn t ≡ countsIn s → Fit s → Fit t
+      pub line-stays : (s : S) (i : Interrupter) (on : Bool) → Quiet s (m .ordered (order.VetoLine on) s i)
+      pub row-does : (s : S) (i : Interrupter) (a : Access) → Reached s i a (lookUp 0 (m .registers) a)
       pub fair-tested : (s : S) (i : Interrupter) → Fit s → Fair 1 s (m .tested s i)
 
     module _ (own : Own) (c : Scale w run f Fit) (s : S) (i : Interrupter) (g : Fit s) where
@@ -191,30 +202,34 @@ module _ {S O : Type 0} (m : Module S O) where
 
       -- 12 comes first
       well-formed : (p : ℕ) (o : O) → Fair p s o → Fair p s (cond (m .formed s i) o (m .refused Malformed s i))
-      well-formed p o h = fair-cond p s (m .formed s i) o (m .refused Malformed s i) (λ _. h) (λ _. declined p Malformed refl)
+      well-formed p o h = by-test (Fair p s) (m .formed s i) o (m .refused Malformed s i) (λ _. h) (λ _. declined p Malformed refl)
 
-      by-row : (to : Register) (a : Access) → reaches 4 to ≡ false
+      stays-fair : (o : O) → Quiet s o → Fair 0 s o
+      stays-fair o q = fair-quiet s o (own .fit-stays s (m .state o) (q .0) (q .1) g) (q .1)
+
+      does-fair : {b c : Bool} {o : O} → Does s i b c o → c ≡ false → Fair (cond b 1 0) s o
+      does-fair increases e = own .fair-tested s i g
+      does-fair (clearing o d) e = absurd (false≢true (sym e))
+      does-fair (stays v o d q) e = stays-fair o q
+
+      by-row : (to : Register) (a : Access) → Reached s i a to → reaches 4 to ≡ false
           → Fair (cond (reaches 1 to) 1 0) s (byTable (λ why. m .refused why s i) (λ at place. m .performed at place s i a) to)
-      by-row (Refused why) a e = let r = m .refused-is why s i in fair-quiet s (m .refused why s i) (rw (r .1) g) (ap countsIn (r .1))
-      by-row (At at place) a e = go (eqb at 1) refl
-        where
-          go : (b : Bool) → eqb at 1 ≡ b → Fair (cond b 1 0) s (m .performed at place s i a)
-          go true q = rw (eqb-true at 1 q, own .increase-is place s i a) (own .fair-tested s i g)
-          go false q = let r = own .row-stays at place s i a g q e in fair-quiet s (m .performed at place s i a) (r .0) (r .1)
+      by-row (Refused why) a d e = let r = m .refused-is why s i in stays-fair (m .refused why s i) (ap (m .joins) (r .1), ap countsIn (r .1))
+      by-row (At at place) a d e = does-fair d e
 
       -- every call that does not clear
       fair-step : (x : Call) → clears (m .registers) x ≡ false → Fair (pulsesTo (m .registers) f x) s (m .step s i x)
       fair-step (call.Pulses x n) e =
           let d = m .done-is s i in
           rw (m .pulses-are s i x n)
-          (well-formed _ _ (fair-cond _ s (ltb x 16) _ (m .refused NoChannel s i)
+          (well-formed _ _ (by-test (Fair _ s) (ltb x 16) _ (m .refused NoChannel s i)
           (λ h. subst (λ (t : S). Fair (cond (eqb x f) n 0) t (iterate n (m .pulse x) (m .done s i))) (d .1) (fair-pulses c x n (m .done s i) (ltb-true x 16 h) (d .0) (rw (d .1) g)))
           (λ _. declined _ NoChannel refl)))
-      fair-step (call.VetoLine on) e = let r = own .line-stays s i on g in rw (m .line-is s i on) (well-formed 0 _ (fair-quiet s (m .ordered (order.VetoLine on) s i) (r .0) (r .1)))
+      fair-step (call.VetoLine on) e = rw (m .line-is s i on) (well-formed 0 _ (stays-fair (m .ordered (order.VetoLine on) s i) (own .line-stays s i on)))
       fair-step call.Test e = rw (m .test-is s i) (well-formed 1 _ (own .fair-tested s i g))
       fair-step call.ClearLine e = absurd (false≢true (sym e))
       fair-step call.Trigger e = rw (m .trigger-is s i) (well-formed 0 _ (declined 0 NoMeaning refl))
-      fair-step (call.Access a) e = rw (m .access-is s i a) (well-formed _ _ (by-row (lookUp 0 (m .registers) a) a e))
+      fair-step (call.Access a) e = rw (m .access-is s i a) (well-formed _ _ (by-row (lookUp 0 (m .registers) a) a (own .row-does s i a) e))
       fair-step call.ManClr e = absurd (false≢true (sym e))
 
     -- the scale is ticked as often as pulses are admitted to it, over every list of calls that do not clear

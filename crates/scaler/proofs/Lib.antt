@@ -2,6 +2,5 @@ pub mod Any
 pub mod Clocks
 pub mod Runs
 pub mod Counted
-pub mod Admitted
 pub mod Fair
 pub mod Refusals

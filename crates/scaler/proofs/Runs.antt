@@ -12,6 +12,7 @@ use lib.Seq.{getD-set-same, getD-set-other}
 use Rattle.count.specs.Counter.{next, carries}
 use Rattle.count.specs.Chain.{tickChain}
 use Rattle.count.proofs.Carry.{on-carry}
+use Rattle.count.proofs.Mapping.{getD-map}
 use Rattle.bus.proofs.Places.{left-of, right-of}
 use Rattle.scaler.specs.Clock.{countOne, clocked}
 use Rattle.bus.proofs.Choices.{cond-same}
@@ -123,16 +124,10 @@ module _ (w : ℕ) (joins : ℕ → Bool) (after : ℕ → ℕ) (m : ℕ) where
       (λ _. length-clocked n (after k) (countOne w k counts) ∙ s)
       (λ _. s)
 
--- each channel counts one
-getD-map : (w : ℕ) (counts : List ℕ) (k : ℕ) → k < length counts → getD (map (next w) counts) k 0 ≡ next w (getD counts k 0)
-getD-map w [] k h = absurd (omega arith)
-getD-map w (c ∷ cs) zero h = refl
-getD-map w (c ∷ cs) (suc k) h = getD-map w cs k (omega arith)
-
 -- TEST: of a single channel one tick
 pub single-ticks : (w k : ℕ) (counts : List ℕ) → k < length counts → countsOf (k ∷ []) (map (next w) counts) ≡ tickChain w (countsOf (k ∷ []) counts)
 unfolding tickChain
-single-ticks w k counts h = cons (getD-map w counts k h) (sym (cond-same (carries w (getD counts k 0)) []))
+single-ticks w k counts h = cons (getD-map (next w) counts k h) (sym (cond-same (carries w (getD counts k 0)) []))
 
 pub length-path : (after : ℕ → ℕ) (n k : ℕ) → length (path after n k) ≡ n
 unfolding path

@@ -1,13 +1,17 @@
--- Bytes that are moved to the front of their buffer, one after the other. Assumes nothing.
+-- A list that is filled from its front, and bytes that are moved to the front of their buffer, one after the other. Assumes nothing.
 use Prim.Native.Nat.{ℕ, zero, suc, _+_, _<_}
-use mathlib.Core.Path.{_≡_, refl, sym, ap, ap₂, _∙_}
-use mathlib.Core.List.{List, [], _∷_, _++_}
+use mathlib.Core.Path.{_≡_, refl, sym, ap, _∙_}
+use mathlib.Core.List.{List}
 use native.Mathlib.Numerals.{add-one}
 use native.Mathlib.Omega.{arith}
 use borrow.Author.Tests.{eq-eqb, ne-eqb}
 use lib.Dec.{eqb}
 use lib.ListN.{length, getD, set, take, drop, length-set, length-drop}
 use lib.Seq.{take-suc, take-suc-set, drop-set-lt, drop-drop, getD-drop}
+
+-- one more of the elements of a list is stored behind those that are there
+pub one-more : (l a : List ℕ) (i v : ℕ) → i < length a → i < length l → v ≡ getD l i 0 → take i a ≡ take i l → take (i + 1) (set a i v) ≡ take (i + 1) l
+one-more l a i v h k e before = rw (add-one, take-suc-set a i v h, before, e) (sym (take-suc l i 0 k))
 
 -- of buf₀'s bytes from `used` on the first i stand at the front of buf; behind them nothing has changed
 pub record Moved (buf₀ : List ℕ) (used : ℕ) (buf : List ℕ) (i : ℕ) : Type 0 where
@@ -33,12 +37,7 @@ one buf₀ used buf i h m =
     let l : i < length buf = omega (arith, m .len) in
     record {
       len = length-set buf i v ∙ m .len;
-      front =
-          ap (λ (k : ℕ). take k (set buf i v)) (add-one i)
-          ∙ take-suc-set buf i v l
-          ∙ ap₂ (λ (x : List ℕ) (w : ℕ). x ++ (w ∷ [])) (m .front) same
-          ∙ sym (take-suc (drop used buf₀) i 0 (rw length-drop (omega arith)))
-          ∙ ap (λ (k : ℕ). take k (drop used buf₀)) (sym (add-one i));
+      front = one-more (drop used buf₀) buf i v l (rw length-drop (omega arith)) same (m .front);
       behind = drop-set-lt (i + 1) buf i v (omega arith) ∙ sym (drop-drop 1 i buf) ∙ ap (drop 1) (m .behind) ∙ drop-drop 1 i buf₀;
     }
 

@@ -8,7 +8,7 @@ use Rattle.bus.specs.Answers.{numberOf, valueOf}
 use Rattle.scaler.specs.declared.Scales.{Scales}
 use Rattle.v560.specs.declared.V560.{V560}
 use Rattle.v830.specs.declared.V830.{V830}
-use Rattle.trace.specs.declared.held.Traced.{Traced}
+use Rattle.modules.specs.declared.Held.{Held}
 
 -- "What is on or off is 1 or 0."
 abbrev pub oneOrZero : Bool → ℕ
@@ -27,13 +27,13 @@ abbrev pub ownOf : V560 → List ℕ
 ownOf s = s .sections ∷ oneOrZero (s .latch) ∷ []
 
 -- `entry answer .. vme c0 .. c15 l0 .. l15`
-abbrev pub numbers260 : ℕ → Traced → List ℕ
+abbrev pub numbers260 : ℕ → Held → List ℕ
 numbers260 entry t =
     let s : Scales = t .v260 .scales in
     (entry ∷ firstOf (t .answer) (t .interrupter) s) ++ s .counts ++ s .latches
 
 -- `entry answer .. vme sections latch c0 .. c15 l0 .. l15`
-abbrev pub numbers560 : ℕ → Traced → List ℕ
+abbrev pub numbers560 : ℕ → Held → List ℕ
 numbers560 entry t =
     let s : Scales = t .v560 .scales in
     (entry ∷ firstOf (t .answer) (t .interrupter) s) ++ ownOf (t .v560) ++ s .counts ++ s .latches
@@ -46,5 +46,5 @@ firstOf830 answer s =
     ∷ s .store .capacity .0 ∷ s .store .first ∷ s .store .stored .0 ∷ []
 
 -- `entry answer .. stored c0 .. c31`
-abbrev pub numbers830 : ℕ → Traced → List ℕ
+abbrev pub numbers830 : ℕ → Held → List ℕ
 numbers830 entry t = (entry ∷ firstOf830 (t .answer) (t .v830)) ++ t .v830 .counts

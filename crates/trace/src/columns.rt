@@ -5,9 +5,9 @@ ghost use Prim.Native.Nat.{_+_, _≤_};
 ghost use lib.ListN.{length};
 ghost use Rattle.text.specs.Text.{put};
 ghost use Rattle.trace.specs.Columns.{oneOrZero, firstOf, firstOf830, numbers260, numbers560, numbers830};
-use crate::held::Traced;
 use bus::Answer;
 use bus::interrupter::Interrupter;
+use modules::Held;
 use scaler::Scales;
 use v830::V830;
 
@@ -51,7 +51,7 @@ fn put_scales(numbers: &mut [u64], at: usize, s: Scales)
 }
 
 // The numbers of a V260's line.
-pub(crate) fn numbers_260(entry: u64, t: Traced) -> [u64; 41]
+pub(crate) fn numbers_260(entry: u64, t: Held) -> [u64; 41]
     ensures { λ r. ⌜ r ≡ numbers260 entry t ⌝ }
 {
     let answer = t.answer;
@@ -67,7 +67,7 @@ pub(crate) fn numbers_260(entry: u64, t: Traced) -> [u64; 41]
 }
 
 // The numbers of a V560's line.
-pub(crate) fn numbers_560(entry: u64, t: Traced) -> [u64; 43]
+pub(crate) fn numbers_560(entry: u64, t: Held) -> [u64; 43]
     ensures { λ r. ⌜ r ≡ numbers560 entry t ⌝ }
 {
     let answer = t.answer;
@@ -108,7 +108,7 @@ fn first_words_830(answer: Answer, v: V830) -> [u32; 10]
 }
 
 // The numbers of a V830's line.
-pub(crate) fn numbers_830(entry: u64, t: Traced) -> [u64; 43]
+pub(crate) fn numbers_830(entry: u64, t: Held) -> [u64; 43]
     ensures { λ r. ⌜ r ≡ numbers830 entry t ⌝ }
 {
     let answer = t.answer;

@@ -2,7 +2,8 @@
 ghost use mathlib.Core.Path.{_≡_};
 ghost use Prim.Native.Nat.{_≤_};
 ghost use lib.ListN.{length};
-ghost use Rattle.trace.specs.Start.{limits260, limits560, limits830, headIn, lentOf, upFrom};
+ghost use Rattle.head.specs.Heads.{upFrom};
+ghost use Rattle.trace.specs.Start.{limits260, limits560, limits830, headIn, whichOf};
 use benchlog::Entry;
 use benchlog::Fault;
 use benchlog::Reading;
@@ -10,14 +11,11 @@ use columns::numbers_260;
 use columns::numbers_560;
 use columns::numbers_830;
 use head::Head;
-use held::Traced;
-use held::Which;
-use held::act;
-use held::begin;
+use modules::Held;
+use modules::Which;
 use stdio::Listing;
 
 mod columns;
-mod held;
 
 // No limits, for the longest head, which has 35 numbers.
 const ANY: [u32; 35] = [4294967295; 35];
@@ -25,7 +23,7 @@ const ANY: [u32; 35] = [4294967295; 35];
 // A listing under way: where it stands, the module, and how many entries it has shown.
 struct Course {
     listing: Listing,
-    traced: Traced,
+    traced: Held,
     entries: u64,
 }
 
@@ -107,7 +105,7 @@ fn put_names(out: &mut [u8], which: Which) -> usize {
 }
 
 // Puts the line of what the module holds after an entry.
-fn put_held(out: &mut [u8], at: usize, entry: u64, traced: Traced) -> usize {
+fn put_held(out: &mut [u8], at: usize, entry: u64, traced: Held) -> usize {
     let room = stdio::make_room(out, at, 903);
     let which = traced.which;
     match which {
@@ -161,7 +159,7 @@ fn shown(out: &mut [u8], memory: &mut [u32], course: Course, entry: Entry, next:
 {
     let mut l = course.listing;
     let before = course.traced;
-    let traced = act(before, memory, entry);
+    let traced = modules::act(before, memory, entry);
     let entries = std::num::wrapping_add_u64(course.entries, 1);
     l.at = put_held(out, l.at, entries, traced);
     l.used = next;
@@ -208,7 +206,7 @@ fn list_entries(buf: &mut [u8], out: &mut [u8], memory: &mut [u32], first: Listi
     requires { ⌜ first .have ≤ length (now buf) ⌝ }
 {
     let values = head.values;
-    let traced = begin(values, memory);
+    let traced = modules::begin(which_of(values[0]), values, memory);
     let which = traced.which;
     let at = put_names(out, which);
     let mut l = first;
@@ -228,18 +226,17 @@ fn list_entries(buf: &mut [u8], out: &mut [u8], memory: &mut [u32], first: Listi
     stdio::flush(out, last);
 }
 
-// How many of the words that there are a head lends: a V830's capacity.
-fn lent(values: [u32; 40], most: usize) -> usize
-    ensures { λ r. ⌜ (r ≡ lentOf values most) × (r ≤ most) ⌝ }
+// The module that a head names.
+fn which_of(name: u32) -> Which
+    ensures { λ r. ⌜ r ≡ whichOf name ⌝ }
 {
-    if values[0] != 830 {
-        return 0;
+    if name == 260 {
+        return Which::V260;
     }
-    let capacity = values[2] as usize;
-    if capacity > most {
-        return 0;
+    if name == 560 {
+        return Which::V560;
     }
-    capacity
+    Which::V830
 }
 
 // The whole listing; a refused head is its fault line alone.
@@ -249,7 +246,7 @@ fn run(buf: &mut [u8], out: &mut [u8], memory: &mut [u32]) {
     let head = head_in(&buf[..have]);
     if head.answer == 0 {
         let values = head.values;
-        let end = lent(values, memory.len());
+        let end = modules::lent(which_of(values[0]), values, memory.len());
         list_entries(buf, out, &mut memory[..end], first, head);
         return;
     }
@@ -260,7 +257,7 @@ fn run(buf: &mut [u8], out: &mut [u8], memory: &mut [u32]) {
 // Sets the words to 1, 2, 3 and so on.
 fn count_up(memory: &mut [u32])
     requires { ⌜ length (now memory) ≤ 40000 ⌝ }
-    ensures { λ _. ⌜ now (memory .exit) ≡ upFrom 1 (length (now (memory .entry))) ⌝ }
+    ensures { λ _. ⌜ now (memory .exit) ≡ upFrom (length (now (memory .entry))) 1 ⌝ }
 {
     let mut k: usize = 0;
     while k < memory.len() {

@@ -22,9 +22,9 @@ use Rattle.bus.proofs.Places.{left-of, right-of}
 use Rattle.scaler.specs.declared.Call.{Call}
 use Rattle.scaler.specs.declared.Call.the-variants as call
 use Rattle.scaler.specs.Orders.{inhibited}
-use Rattle.scaler.proofs.Admitted.{reaches, clears, noClear}
+use Rattle.scaler.specs.Admitted.{reaches, clears, noClear}
 use Rattle.scaler.proofs.Counted.{held}
-use Rattle.scaler.proofs.Fair.{calledOf, admitted, idle, scale-holds}
+use Rattle.scaler.proofs.Fair.{Quiet, Does, increases, clearing, stays, Reached, calledOf, admitted, idle, scale-holds}
 use Rattle.scaler.proofs.Runs.{or-true, countsOf, length-path}
 use Rattle.v260.specs.declared.Switches.{Switches}
 use Rattle.v260.specs.declared.V260.{V260}
@@ -34,7 +34,7 @@ use Rattle.v260.specs.Counting.{after, isJoined, pulse, tested}
 use Rattle.v260.specs.Registers.{registers, performed}
 use Rattle.v260.specs.Calls.{stepOf}
 use Rattle.v260.proofs.Channels.{Joined, channels}
-use Rattle.v260.proofs.Stepping.{v260, Quiet, quiet-performed, Fit, scale, own}
+use Rattle.v260.proofs.Stepping.{v260, row-does, Fit, scale, own}
 
 -- T4: a joined scale of k + 1 channels from channel f on, all zero, and any calls of which none clears
 pub v260-scale-holds : (f k : ℕ) (calls : List Call) (s : V260) (i : Interrupter)
@@ -53,12 +53,12 @@ abbrev pub AllJoined : V260 → Type 0
 AllJoined s = (x : ℕ) → x < 16 → isJoined (s .switches) x ≡ true
 
 module _ (s : V260) (i : Interrupter) (j : AllJoined s) where
-  quiet-unless : (why : Answer) (b : Bool) (o : Outcome) → (b ≡ true → Quiet s o) → Quiet s (unless b why s i o)
+  quiet-unless : (why : Answer) (b : Bool) (o : Outcome) → (b ≡ true → Quiet v260 s o) → Quiet v260 s (unless b why s i o)
   quiet-unless why true o h = h refl
   quiet-unless why false o h = (refl, refl)
 
   -- TEST is refused
-  quiet-tested : Quiet s (tested s i)
+  quiet-tested : Quiet v260 s (tested s i)
   quiet-tested = quiet-unless NoMeaning (eqb (s .switches .joined) 0) _ (λ e. absurd (none (eqb-true (s .switches .joined) 0 e)))
     where
       none : s .switches .joined ≡ 0 → ⊥
@@ -67,26 +67,27 @@ module _ (s : V260) (i : Interrupter) (j : AllJoined s) where
           omega (arith, sym (no-bit 0 0 0 (omega arith) (omega arith)) ∙ b)
 
   -- no input does anything
-  quiet-pulses : (x n : ℕ) → x < 16 → Quiet s (iterate n (pulse x) (done 0 s i))
+  quiet-pulses : (x n : ℕ) → x < 16 → Quiet v260 s (iterate n (pulse x) (done 0 s i))
   quiet-pulses x n h =
-      subst (Quiet s) (sym (idle v260 x n (done 0 s i) (or-true (inhibited (s .scales)) (isJoined (s .switches) x) (j x h)))) (refl, refl)
+      subst (Quiet v260 s) (sym (idle v260 x n (done 0 s i) (or-true (inhibited (s .scales)) (isJoined (s .switches) x) (j x h)))) (refl, refl)
 
-  quiet-reached : (to : Register) (a : Access) → reaches 4 to ≡ false → Quiet s (byTable (λ why. refused why s i) (λ at place. performed at place s i a) to)
-  quiet-reached (Refused why) a e = (refl, refl)
-  quiet-reached (At at place) a e = go (eqb at 1) refl
-    where
-      go : (b : Bool) → eqb at 1 ≡ b → Quiet s (performed at place s i a)
-      go true q = rw (eqb-true at 1 q) quiet-tested
-      go false q = quiet-performed at place s i a q e
+  quiet-does : {b c : Bool} {o : Outcome} → Does v260 s i b c o → c ≡ false → Quiet v260 s o
+  quiet-does increases e = quiet-tested
+  quiet-does (clearing o d) e = absurd (false≢true (sym e))
+  quiet-does (stays v o d q) e = q
 
-  quiet-step : (c : Call) → clears registers c ≡ false → Quiet s (stepOf s i c)
+  quiet-reached : (to : Register) (a : Access) → Reached v260 s i a to → reaches 4 to ≡ false → Quiet v260 s (byTable (λ why. refused why s i) (λ at place. performed at place s i a) to)
+  quiet-reached (Refused why) a d e = (refl, refl)
+  quiet-reached (At at place) a d e = quiet-does d e
+
+  quiet-step : (c : Call) → clears registers c ≡ false → Quiet v260 s (stepOf s i c)
   quiet-step (call.Pulses x n) e =
       quiet-unless Malformed (isFormed s i) _ (λ _. quiet-unless NoChannel (ltb x 16) _ (λ h. quiet-pulses x n (ltb-true x 16 h)))
   quiet-step (call.VetoLine on) e = quiet-unless Malformed (isFormed s i) _ (λ _. (refl, refl))
   quiet-step call.Test e = quiet-unless Malformed (isFormed s i) _ (λ _. quiet-tested)
   quiet-step call.ClearLine e = absurd (false≢true (sym e))
   quiet-step call.Trigger e = quiet-unless Malformed (isFormed s i) _ (λ _. (refl, refl))
-  quiet-step (call.Access a) e = quiet-unless Malformed (isFormed s i) _ (λ _. quiet-reached (lookUp 0 registers a) a e)
+  quiet-step (call.Access a) e = quiet-unless Malformed (isFormed s i) _ (λ _. quiet-reached (lookUp 0 registers a) a (row-does s i a) e)
   quiet-step call.ManClr e = absurd (false≢true (sym e))
 
 -- T4: nothing counts, whatever is called that does not clear

@@ -12,10 +12,11 @@ use Rattle.count.proofs.Bits.{no-bit}
 use Rattle.bus.specs.declared.Access.{Access}
 use Rattle.bus.specs.declared.Answer.the-variants.{NoMeaning}
 use Rattle.bus.specs.declared.interrupter.Interrupter.{Interrupter}
-use Rattle.scaler.specs.declared.Order.the-variants as order
 use Rattle.scaler.specs.Orders.{inhibited}
-use Rattle.bus.proofs.Choices.{either-way}
-use Rattle.scaler.proofs.Fair.{Module, Scale, Fair, fair-cond, fair-refused, fair-inhibited, Own}
+use Rattle.bus.specs.Table.{lookUp}
+use Rattle.bus.proofs.Choices.{either-way, by-test}
+use Rattle.bus.proofs.Numbers.{each-row}
+use Rattle.scaler.proofs.Fair.{Module, Does, increases, clearing, stays, Reached, Scale, Fair, fair-refused, fair-inhibited, Own}
 use Rattle.scaler.proofs.Runs.{path, run-ticks, others-stay, length-clocked, single-ticks}
 use Rattle.v260.specs.declared.Switches.{Switches}
 use Rattle.v260.specs.declared.V260.{V260}
@@ -27,13 +28,14 @@ use Rattle.v260.specs.Calls.{stepOf}
 use Rattle.v260.proofs.Channels.{Joined, channels, scale-run, scale-shut, scale-other}
 
 -- the module
-abbrev pub v260 : Module V260 Outcome
+abbrev pub v260 : Module V260 Outcome Switches
 v260 =
     record {
       answer = λ o. o .answer;
       state = λ o. o .state;
       interrupter = λ o. o .interrupter;
       scales = λ s. s .scales;
+      joins = λ s. s .switches;
       registers = registers;
       step = stepOf;
       pulse = pulse;
@@ -60,25 +62,22 @@ v260 =
       access-is = λ s i a. refl;
     }
 
--- a call that leaves the switches and the counts
-abbrev pub Quiet : V260 → Outcome → Type 0
-Quiet s o = (o .state .switches ≡ s .switches) × (o .state .scales .counts ≡ s .scales .counts)
-
--- every row but Scale Increase and the clear access leaves the counts
-pub quiet-performed : (at place : ℕ) (s : V260) (i : Interrupter) (a : Access) → eqb at 1 ≡ false → eqb at 4 ≡ false → Quiet s (performed at place s i a)
-quiet-performed at place s i a e g =
-    let P : Outcome → Type 0 = Quiet s in
-    rw (e, g)
-    (either-way P (eqb at 0) _ _ (refl, refl)
-    (either-way P (eqb at 2) _ _ (refl, refl)
-    (either-way P (eqb at 3) _ _ (refl, refl)
-    (either-way P (eqb at 5) _ _ (either-way P (eqb (a .width) 32) _ _ (refl, refl) (refl, refl))
-    (either-way P (eqb at 6) _ _ (refl, refl)
-    (either-way P (eqb at 8) _ _ (refl, refl)
-    (either-way P (eqb at 9) _ _ (refl, refl)
-    (either-way P (eqb at 10) _ _ (refl, refl)
-    (either-way P (eqb at 11) _ _ (refl, refl)
-    (either-way P (eqb at 12) _ _ (refl, refl) (refl, refl)))))))))))
+-- what each row of its table does
+pub row-does : (s : V260) (i : Interrupter) (a : Access) → Reached v260 s i a (lookUp 0 registers a)
+row-does s i a =
+    each-row (Reached v260 s i a) registers a (λ why d. tt)
+    (λ place. stays _ _ refl (refl, refl))
+    (λ place. increases)
+    (λ place. stays _ _ refl (refl, refl))
+    (λ place. stays _ _ refl (refl, refl))
+    (λ place. clearing _ refl)
+    (λ place. either-way (Does v260 s i false false) (eqb (a .width) 32) _ _ (stays _ _ refl (refl, refl)) (stays _ _ refl (refl, refl)))
+    (λ place. stays _ _ refl (refl, refl))
+    (λ place. stays _ _ refl (refl, refl))
+    (λ place. stays _ _ refl (refl, refl))
+    (λ place. stays _ _ refl (refl, refl))
+    (λ place. stays _ _ refl (refl, refl))
+    (λ place. stays _ _ refl (refl, refl))
 
 -- a module with sixteen counts that has this joined scale
 pub record Fit (f k : ℕ) (s : V260) : Type 0 where
@@ -101,10 +100,6 @@ module _ (f k : ℕ) where
     abbrev Fairly : ℕ → Outcome → Type 0
     Fairly p o = Fair v260 24 (channels f k) f (Fit f k) p s o
 
-    -- a call that leaves switches and counts leaves the scale
-    still : (o : Outcome) → Quiet s o → Fit f k (o .state) × (o .state .scales .counts ≡ s .scales .counts)
-    still o q = (record { joined = subst (λ (w : Switches). Joined w f k) (sym (q .0)) (g .joined); size = ap length (q .1) ∙ g .size }, q .1)
-
     -- without a joined channel the scale is a single one
     single : (k : ℕ) → Joined (s .switches) f k → s .switches .joined ≡ 0 → k ≡ 0
     single zero c e = refl
@@ -125,8 +120,8 @@ module _ (f k : ℕ) where
 
     fair-tested : Fairly 1 (tested s i)
     fair-tested =
-        fair-cond v260 24 (channels f k) f (Fit f k) 1 s (eqb (s .switches .joined) 0) _ (refused NoMeaning s i)
-        (λ e. fair-cond v260 24 (channels f k) f (Fit f k) 1 s (inhibited (s .scales)) (done 0 s i) _
+        by-test (Fairly 1) (eqb (s .switches .joined) 0) _ (refused NoMeaning s i)
+        (λ e. by-test (Fairly 1) (inhibited (s .scales)) (done 0 s i) _
         (λ h. fair-inhibited v260 24 (channels f k) f (Fit f k) 1 s (done 0 s i) g refl h)
         (λ h. fair-each (eqb-true (s .switches .joined) 0 e) h))
         (λ _. fair-refused v260 24 (channels f k) f (Fit f k) 1 s (refused NoMeaning s i) g refl refl)
@@ -134,8 +129,8 @@ module _ (f k : ℕ) where
   pub own : Own v260 24 (channels f k) f (Fit f k)
   own =
       record {
-        line-stays = λ s i on g. still s i g (obey (order.VetoLine on) s i) (refl, refl);
-        row-stays = λ at place s i a g q e. still s i g (performed at place s i a) (quiet-performed at place s i a q e);
-        increase-is = λ place s i a. refl;
+        fit-stays = λ s t q e g. record { joined = subst (λ (w : Switches). Joined w f k) (sym q) (g .joined); size = ap length e ∙ g .size };
+        line-stays = λ s i on. (refl, refl);
+        row-does = row-does;
         fair-tested = λ s i g. fair-tested s i g;
       }

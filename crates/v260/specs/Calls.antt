@@ -1,4 +1,4 @@
--- Every call of the V260 (document 01, "Registers of the V260 and V260"). Assumes nothing.
+-- Every call of the V260 (document 01, "Registers of the V260 and V560"). Assumes nothing.
 use Rattle.bus.specs.declared.Answer.the-variants.{NoMeaning}
 use Rattle.bus.specs.declared.interrupter.Interrupter.{Interrupter}
 use Rattle.scaler.specs.declared.Call.{Call}

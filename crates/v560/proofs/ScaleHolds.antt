@@ -10,7 +10,7 @@ use lib.ListN.{length, replicate}
 use Rattle.count.specs.Counter.{bit}
 use Rattle.bus.specs.declared.interrupter.Interrupter.{Interrupter}
 use Rattle.scaler.specs.declared.Call.{Call}
-use Rattle.scaler.proofs.Admitted.{noClear}
+use Rattle.scaler.specs.Admitted.{noClear}
 use Rattle.scaler.proofs.Counted.{held}
 use Rattle.scaler.proofs.Fair.{calledOf, admitted, scale-holds}
 use Rattle.scaler.proofs.Runs.{countsOf}

@@ -14,10 +14,11 @@ use Rattle.bus.specs.declared.Access.{Access}
 use Rattle.bus.specs.declared.Answer.the-variants.{NoMeaning}
 use Rattle.bus.specs.declared.interrupter.Interrupter.{Interrupter}
 use Rattle.bus.specs.Interrupting.{wellFormed}
-use Rattle.scaler.specs.declared.Order.the-variants as order
 use Rattle.bus.proofs.Places.{right-of}
+use Rattle.bus.specs.Table.{lookUp}
 use Rattle.bus.proofs.Choices.{and-false, either-way}
-use Rattle.scaler.proofs.Fair.{Module, Scale, Fair, fair-refused, Own}
+use Rattle.bus.proofs.Numbers.{each-row}
+use Rattle.scaler.proofs.Fair.{Module, Does, increases, clearing, stays, Reached, Scale, Fair, fair-refused, Own}
 use Rattle.scaler.proofs.Runs.{among, apart, countsOf, path, Run, run-ticks, others-stay, length-clocked}
 use Rattle.v560.specs.declared.V560.{V560}
 use Rattle.v560.specs.declared.Outcome.{Outcome}
@@ -27,13 +28,14 @@ use Rattle.v560.specs.Registers.{registers, obey, requestFor, levelFor, 
 use Rattle.v560.specs.Calls.{stepOf}
 
 -- the module
-abbrev pub v560 : Module V560 Outcome
+abbrev pub v560 : Module V560 Outcome ℕ
 v560 =
     record {
       answer = λ o. o .answer;
       state = λ o. o .state;
       interrupter = λ o. o .interrupter;
       scales = λ s. s .scales;
+      joins = λ s. s .joined;
       registers = registers;
       step = stepOf;
       pulse = pulse;
@@ -60,33 +62,30 @@ v560 =
       access-is = λ s i a. refl;
     }
 
--- a call that leaves the switches and the counts
-abbrev Quiet : V560 → Outcome → Type 0
-Quiet s o = (o .state .joined ≡ s .joined) × (o .state .scales .counts ≡ s .scales .counts)
-
 -- a register that is read or written
-quiet-register : (s : V560) (i : Interrupter) (word : ℕ) (b : Bool)
-    → Quiet s (requestFor b s i word) × Quiet s (levelFor b s i word) × Quiet s (vectorFor b s i word)
-quiet-register s i word true = ((refl, refl), (refl, refl), (refl, refl))
-quiet-register s i word false = ((refl, refl), (refl, refl), (refl, refl))
+register-does : (s : V560) (i : Interrupter) (word : ℕ) (b : Bool)
+    → Does v560 s i false false (requestFor b s i word) × Does v560 s i false false (levelFor b s i word) × Does v560 s i false false (vectorFor b s i word)
+register-does s i word true = (stays _ _ refl (refl, refl), stays _ _ refl (refl, refl), stays _ _ refl (refl, refl))
+register-does s i word false = (stays _ _ refl (refl, refl), stays _ _ refl (refl, refl), stays _ _ refl (refl, refl))
 
--- every row but Scale Increase and the clear access leaves the counts
-quiet-performed : (at place : ℕ) (s : V560) (i : Interrupter) (a : Access) → eqb at 1 ≡ false → eqb at 4 ≡ false → Quiet s (performed at place s i a)
-quiet-performed at place s i a e g =
-    let r = quiet-register s i (a .«data») (a .write) in
-    let P : Outcome → Type 0 = Quiet s in
-    rw (e, g)
-    (either-way P (eqb at 0) _ _ (refl, refl)
-    (either-way P (eqb at 2) _ _ (refl, refl)
-    (either-way P (eqb at 3) _ _ (refl, refl)
-    (either-way P (eqb at 5) _ _ (either-way P (eqb (a .width) 32) _ _ (refl, refl) (refl, refl))
-    (either-way P (eqb at 6) _ _ (refl, refl)
-    (either-way P (eqb at 7) _ _ (r .0)
-    (either-way P (eqb at 8) _ _ (refl, refl)
-    (either-way P (eqb at 9) _ _ (refl, refl)
-    (either-way P (eqb at 10) _ _ (refl, refl)
-    (either-way P (eqb at 11) _ _ (r .1)
-    (either-way P (eqb at 12) _ _ (r .2) (refl, refl))))))))))))
+-- what each row of its table does
+pub row-does : (s : V560) (i : Interrupter) (a : Access) → Reached v560 s i a (lookUp 0 registers a)
+row-does s i a =
+    let r = register-does s i (a .«data») (a .write) in
+    each-row (Reached v560 s i a) registers a (λ why d. tt)
+    (λ place. stays _ _ refl (refl, refl))
+    (λ place. increases)
+    (λ place. stays _ _ refl (refl, refl))
+    (λ place. stays _ _ refl (refl, refl))
+    (λ place. clearing _ refl)
+    (λ place. either-way (Does v560 s i false false) (eqb (a .width) 32) _ _ (stays _ _ refl (refl, refl)) (stays _ _ refl (refl, refl)))
+    (λ place. stays _ _ refl (refl, refl))
+    (λ place. r .0)
+    (λ place. stays _ _ refl (refl, refl))
+    (λ place. stays _ _ refl (refl, refl))
+    (λ place. stays _ _ refl (refl, refl))
+    (λ place. r .1)
+    (λ place. r .2)
 
 -- the channels of section n, the low part first: 2n + 1, then 2n
 abbrev pub section : ℕ → List ℕ
@@ -152,11 +151,6 @@ module _ (n : ℕ) where
       }
 
   module _ (s : V560) (i : Interrupter) (g : Fit n s) where
-    -- a call that leaves switches and counts leaves the section
-    still : (o : Outcome) → Quiet s o → Fit n (o .state) × (o .state .scales .counts ≡ s .scales .counts)
-    still o q =
-        (record { among-eight = g .among-eight; joined = ap (λ (j : ℕ). eqb (bit j n) 1) (q .0) ∙ g .joined; size = ap length (q .1) ∙ g .size }, q .1)
-
     -- a section is joined, so not nothing is
     not-none : s .joined ≡ 0 → ⊥
     not-none e =
@@ -171,8 +165,8 @@ module _ (n : ℕ) where
   pub own : Own v560 32 (section n) (2 * n + 1) (Fit n)
   own =
       record {
-        line-stays = λ s i on g. still s i g (obey (order.VetoLine on) s i) (refl, refl);
-        row-stays = λ at place s i a g q e. still s i g (performed at place s i a) (quiet-performed at place s i a q e);
-        increase-is = λ place s i a. refl;
+        fit-stays = λ s t q e g. record { among-eight = g .among-eight; joined = ap (λ (j : ℕ). eqb (bit j n) 1) q ∙ g .joined; size = ap length e ∙ g .size };
+        line-stays = λ s i on. (refl, refl);
+        row-does = row-does;
         fair-tested = fair-tested;
       }

@@ -1,5 +1,5 @@
 -- One call and the account: what is stored, then what its trigger stores, is what it hands out, then what is stored after it; what its event has of a channel and the channel's
--- live counter are what was live and what was admitted. By cases on the call and, of an access, on the row. Assumes nothing.
+-- live counter are what was live and what was admitted. By cases on the call and, of an access, on its role. Assumes nothing.
 use Prim.Native.Nat.{ℕ, _+_, _-_, _%_, _^_, _≤_, _<_}
 use mathlib.Core.Path.{_≡_, refl, sym, ap, _∙_}
 use mathlib.Core.Bool.{Bool, true, false, cond, not, false≢true}
@@ -11,16 +11,12 @@ use lib.Dec.{eqb, leb, ltb}
 use lib.ListN.{length, getD, getD-replicate, length-map}
 use Rattle.bus.specs.declared.Access.{Access}
 use Rattle.bus.specs.declared.Answer.{Answer}
-use Rattle.bus.specs.declared.Answer.the-variants.{Malformed, WrongMemory, NoMeaning, NoChannel, NotRandom, NoWords, TooFewFree, NothingStored, WordsStored, NotInTable}
-use Rattle.bus.specs.declared.table.Register.{Register}
-use Rattle.bus.specs.declared.table.Register.the-variants.{At, Refused}
-use Rattle.bus.specs.Table.{lookUp, byTable}
-use Rattle.bus.proofs.Choices.{either-way, both-ways, by-test}
+use Rattle.bus.specs.declared.Answer.the-variants.{Malformed, WrongMemory, NoMeaning, NoChannel, NotRandom, NoWords, TooFewFree, NothingStored, WordsStored}
+use Rattle.bus.proofs.Choices.{either-way, by-test}
 use Rattle.count.specs.Counter.{next, iterate}
-use Rattle.layout.specs.declared.Stored.{Stored}
-use Rattle.layout.specs.declared.Stored.the-variants as stored
+use Rattle.count.proofs.Mapping.{getD-map}
 use Rattle.layout.specs.Layout.{eventWords}
-use Rattle.layout.specs.Length.{eventLength, eventsIn}
+use Rattle.layout.specs.Length.{eventLength}
 use Rattle.layout.specs.Reader.{countIn}
 use Rattle.layout.proofs.Written.{words-length}
 use Rattle.v830.specs.declared.Call.{Call}
@@ -30,16 +26,17 @@ use Rattle.v830.specs.declared.V830.{V830}
 use Rattle.v830.specs.State.{mode, isSet, settings, zeros, formed}
 use Rattle.v830.specs.Memory.{storedWords, putRound, longer}
 use Rattle.v830.specs.Outcomes.{Step, kept, refused, done, lent}
-use Rattle.v830.specs.Counting.{pulse, tested, cleared, vetoed}
+use Rattle.v830.specs.Counting.{pulse, tested, vetoed}
 use Rattle.v830.specs.Trigger.{eventOf, accepted, triggered}
-use Rattle.v830.specs.Registers.{registers, handedOut, enabling, enableFor, controlled, controlFor, withBits, withoutBits, reset, eventsRead, performed}
+use Rattle.v830.specs.Registers.{handedOut, enabling}
 use Rattle.v830.specs.Calls.{stepOf}
-use Rattle.v830.specs.Account.{Made, made, lending, lendingAnother, Role, reads, triggers, writes, clears, none, roleAt, roleOf, callOf, isDone, handedBy, acceptedBy, admittedBy, wordsOf, AllRead, countsIn, live, enabled, modulus, endsWith, goesOn, other}
+use Rattle.v830.specs.Account.{Made, made, lending, lendingAnother, Role, reads, triggers, writes, clears, none, roleOf, callOf, isDone, handedBy, acceptedBy, admittedBy, wordsOf, AllRead, countsIn, live, enabled, modulus, endsWith, goesOn, other}
 use Rattle.v830.proofs.Forming.{formed-facts}
-use Rattle.v830.proofs.Live.{still-pulses, pulses-live, taken-of, map-of}
+use Rattle.v830.proofs.Live.{still-pulses, pulses-live, taken-of}
 use Rattle.v830.proofs.Modular.{next-mod, taken-mod}
 use Rattle.v830.proofs.ReadsBack.{event-reads-back}
 use Rattle.v830.proofs.RingLaws.{stored-after-trigger, stored-after-read}
+use Rattle.v830.proofs.Roles.{Does, hands-out, triggering, controls, ends, looks, enables, declines, row-does}
 
 -- numbers of 32 bits and 32 channels, as every record of the code has them
 pub record Fits (s : V830) : Type 0 where
@@ -76,10 +73,6 @@ module _ (k : ℕ) (s : V830) (memory : List ℕ) where
     unmoved : live k s % modulus s ≡ (live k s + 0) % modulus s
     unmoved = rw add-zero
 
-    -- it reads a register
-    looks : (v : ℕ) → Goes none 0 (kept memory (done v s))
-    looks v = quiet 0 v s refl refl f unmoved
-
     -- a refused call
     declined : (role : Role) (why : Answer) → isDone why ≡ false → Goes role 0 (kept memory (refused why s))
     unfolding wordsOf countsIn AllRead
@@ -100,9 +93,9 @@ module _ (k : ℕ) (s : V830) (memory : List ℕ) where
         nothing none = (refl, refl)
 
     -- a memory read
-    hands-out : formed s ≡ true → Goes reads 0 (kept memory (handedOut s memory))
+    read-fair : formed s ≡ true → Goes reads 0 (kept memory (handedOut s memory))
     unfolding wordsOf countsIn AllRead
-    hands-out g =
+    read-fair g =
         by-test (λ (o : Outcome). Goes reads 0 (kept memory o)) (ltb 0 (s .store .stored .0)) _ (refused NothingStored s)
         (λ t e.
         record {
@@ -160,45 +153,23 @@ module _ (k : ℕ) (s : V830) (memory : List ℕ) where
         (declined (triggers source) NotRandom refl)
 
     -- a call that ends the stretch, if it is done
-    ends : (role : Role) (v : ℕ) (t : V830) → endsWith role (done v t .answer) ≡ true → Goes role 0 (kept memory (done v t))
-    ends role v t d e = absurd (false≢true (sym e ∙ d))
+    ends-fair : (role : Role) (v : ℕ) (t : V830) → endsWith role (done v t .answer) ≡ true → Goes role 0 (kept memory (done v t))
+    ends-fair role v t d e = absurd (false≢true (sym e ∙ d))
 
-    controls : (result : ℕ) → Goes writes 0 (kept memory (controlled result s))
-    controls result =
+    -- what an access does, by its role
+    does-fair : formed s ≡ true → length memory ≡ s .store .capacity .0 → {role : Role} {r : Step} → Does s memory role r → Goes role 0 r
+    does-fair g l hands-out = read-fair g
+    does-fair g l triggering = triggers-fair 0 (omega arith) g l
+    does-fair g l (controls result) =
         either-way (λ (o : Outcome). Goes writes 0 (kept memory o)) (not (eqb (mode result) 3)) _ (refused NoMeaning s)
-        (ends writes 0 _ refl) (declined writes NoMeaning refl)
-
-    control-fair : (word : ℕ) (w : Bool) → Goes (cond w writes none) 0 (kept memory (controlFor w s word))
-    control-fair word true = controls (word % 0x100)
-    control-fair word false = looks (s .control)
-
-    enable-fair : (word : ℕ) (w : Bool) → Goes none 0 (kept memory (enableFor w s word))
-    enable-fair word true =
+        (ends-fair writes 0 _ refl) (declined writes NoMeaning refl)
+    does-fair g l (ends t) = ends-fair clears 0 t refl
+    does-fair g l (looks v) = quiet 0 v s refl refl f unmoved
+    does-fair g l (enables word) =
         either-way (λ (o : Outcome). Goes none 0 (kept memory o)) (eqb (s .store .stored .0) 0) _ (refused WordsStored s)
         (quiet 0 0 (enabling (word % 2 ^ 32) s) refl refl (record { enable = mod-lt word (omega arith); channels = f .channels }) unmoved)
         (declined none WordsStored refl)
-    enable-fair word false = looks (s .enable)
-
-    number-fair : (e : Stored) → Goes none 0 (kept memory (eventsRead s e))
-    number-fair (stored.Number events) = looks (events .0)
-    number-fair stored.NoWords = declined none Malformed refl
-
-    -- the rows of the table
-    row-fair : (at place : ℕ) (a : Access) → formed s ≡ true → length memory ≡ s .store .capacity .0 → Goes (roleAt at (a .write)) 0 (performed at place s memory a)
-    row-fair at place a g l =
-        let P : Role → Step → Type 0 = λ role r. Goes role 0 r in
-        both-ways P (eqb at 0) _ _ _ _ (hands-out g)
-        (both-ways P (eqb at 1) _ _ _ _ (looks (getD (s .counts) place 0))
-        (both-ways P (eqb at 2) _ _ _ _ (enable-fair (a .«data») (a .write))
-        (both-ways P (eqb at 3) _ _ _ _ (control-fair (a .«data») (a .write))
-        (both-ways P (eqb at 4) _ _ _ _ (controls (withBits s (a .«data»)))
-        (both-ways P (eqb at 5) _ _ _ _ (controls (withoutBits s (a .«data»)))
-        (both-ways P (eqb at 6) _ _ _ _ (ends clears 0 (reset s) refl)
-        (both-ways P (eqb at 7) _ _ _ _ (ends clears 0 (cleared s) refl)
-        (both-ways P (eqb at 8) _ _ _ _ (triggers-fair 0 (omega arith) g l)
-        (both-ways P (eqb at 9) _ _ _ _ (looks (s .triggers))
-        (both-ways P (eqb at 10) _ _ _ _ (number-fair (eventsIn (settings s) (s .store .stored .0)))
-        (declined none NotInTable refl)))))))))))
+    does-fair g l (declines why d) = declined none why d
 
     -- where the memory that is lent is another one, 12 or 10 comes first
     elsewhere : (role : Role) (lend : List ℕ) (after : Step) → eqb (length lend) (s .store .capacity .0) ≡ false
@@ -216,16 +187,6 @@ module _ (k : ℕ) (s : V830) (memory : List ℕ) where
         (λ l. declined role WrongMemory refl))
         (λ g. declined role Malformed refl)
 
-    -- whatever a call that has no part in the store answers, where it changes nothing
-    silent : (why : Answer) → Goes none 0 (kept memory (refused why s))
-    unfolding wordsOf countsIn AllRead
-    silent why e = record { words = append-nil (storedWords (s .store) memory); counts = λ on reset. rw zero-add unmoved; read = tt; control = refl; fits = f }
-
-    by-row : (to : Register) (a : Access) → formed s ≡ true → length memory ≡ s .store .capacity .0
-        → Goes (byTable (λ why. none) (λ at place. roleAt at (a .write)) to) 0 (byTable (λ why. kept memory (refused why s)) (λ at place. performed at place s memory a) to)
-    by-row (Refused why) a g l = silent why
-    by-row (At at place) a g l = row-fair at place a g l
-
     -- pulses: where the call is done they are admitted to their channel unless VETO is on
     pulses-fair : (x n : ℕ) → Goes none (admittedBy k s (call.Pulses x n) (stepOf s memory (call.Pulses x n) .outcome .answer)) (stepOf s memory (call.Pulses x n))
     pulses-fair x n =
@@ -242,7 +203,7 @@ module _ (k : ℕ) (s : V830) (memory : List ℕ) where
     test-fair =
         either-way (λ (o : Outcome). Goes none (admittedBy k s call.Test (o .answer)) (kept memory o)) (formed s) _ (refused Malformed s)
         (quiet 1 0 (tested s) refl refl (record { enable = f .enable; channels = length-map (s .counts) (next 32) ∙ f .channels })
-        (rw (map-of (next 32) (s .counts) k (omega (arith, f .channels))) (next-mod (settings s .short) (live k s))))
+        (rw (getD-map (next 32) (s .counts) k (omega (arith, f .channels))) (next-mod (settings s .short) (live k s))))
         (declined none Malformed refl)
 
     -- a line or the button: 12 comes first
@@ -254,9 +215,9 @@ module _ (k : ℕ) (s : V830) (memory : List ℕ) where
     call-fair (call.Pulses x n) = pulses-fair x n
     call-fair (call.VetoLine on) = formed-fair none _ (quiet 0 0 (vetoed on s) refl refl (record { enable = f .enable; channels = f .channels }) unmoved)
     call-fair call.Test = test-fair
-    call-fair call.ClearLine = formed-fair clears _ (ends clears 0 _ refl)
+    call-fair call.ClearLine = formed-fair clears _ (ends-fair clears 0 _ refl)
     call-fair call.TriggerLine = lent-fair (triggers 1) (triggered 1 s memory) (triggers-fair 1 (omega arith))
-    call-fair (call.Access a) = lent-fair (roleOf (call.Access a)) _ (by-row (lookUp 0 registers a) a)
+    call-fair (call.Access a) = lent-fair (roleOf (call.Access a)) _ (λ g l. does-fair g l (row-does s memory a))
     call-fair call.ManClr = formed-fair none _ (declined none NoMeaning refl)
 
     -- and where it is lent another memory

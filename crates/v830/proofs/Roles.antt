@@ -1,28 +1,29 @@
--- What a call is by its role: a write of Control that is done restarts the account, and a trigger is a trigger. By cases on the row. Assumes nothing.
+-- What a call is by its role, row by row of the table: a write of Control that is done restarts the account, and a trigger is a trigger. Assumes nothing.
 use Prim.Native.Nat.{ℕ, _-_, _%_}
 use mathlib.Core.Path.{_≡_, refl, sym, ap, _∙_}
 use mathlib.Core.Bool.{Bool, true, false, cond, not, false≢true}
 use mathlib.Core.List.{List}
 use lib.Dec.{eqb, ltb, leb}
-use lib.ListN.{length}
+use lib.ListN.{length, getD}
 use Rattle.bus.specs.declared.Access.{Access}
 use Rattle.bus.specs.declared.Answer.{Answer}
 use Rattle.bus.specs.declared.Answer.the-variants.{NoMeaning, Malformed, WrongMemory, NotRandom, NoWords, TooFewFree}
-use Rattle.bus.specs.declared.table.Register.{Register}
-use Rattle.bus.specs.declared.table.Register.the-variants.{At, Refused}
 use Rattle.bus.specs.Answers.{numberOf}
 use Rattle.bus.specs.Table.{lookUp, byTable}
-use Rattle.bus.proofs.Choices.{either-way, both-ways, by-test}
-use Rattle.layout.specs.Length.{eventLength}
+use Rattle.bus.proofs.Choices.{either-way, by-test}
+use Rattle.bus.proofs.Numbers.{each-row}
+use Rattle.layout.specs.declared.Stored.{Stored}
+use Rattle.layout.specs.declared.Stored.the-variants as stored
+use Rattle.layout.specs.Length.{eventLength, eventsIn}
 use Rattle.v830.specs.declared.Call.{Call}
 use Rattle.v830.specs.declared.Call.the-variants as call
 use Rattle.v830.specs.declared.Outcome.{Outcome}
 use Rattle.v830.specs.declared.V830.{V830}
 use Rattle.v830.specs.State.{mode, settings, zeros, formed}
 use Rattle.v830.specs.Outcomes.{Step, kept, done, refused, lent}
-use Rattle.v830.specs.Counting.{restarted}
+use Rattle.v830.specs.Counting.{cleared, restarted}
 use Rattle.v830.specs.Trigger.{accepted, triggered}
-use Rattle.v830.specs.Registers.{registers, controlled, controlFor, withBits, withoutBits, performed}
+use Rattle.v830.specs.Registers.{registers, handedOut, enableFor, controlled, controlFor, withBits, withoutBits, reset, eventsRead, performed}
 use Rattle.v830.specs.Calls.{stepOf}
 use Rattle.v830.specs.Account.{Role, reads, triggers, writes, clears, none, roleAt, roleOf, isDone, Reason, malformed, wrongMemory, notRandom, noWords, tooFewFree}
 
@@ -55,6 +56,45 @@ pub record Restarted (s t : V830) : Type 0 where
   pub stored : t .store .stored .0 ≡ 0
 
 module _ (s : V830) (memory : List ℕ) where
+  -- what an access does that no refusal comes before, by its role
+  pub data Does : Role → Step → Type 0 where
+    hands-out : Does reads (kept memory (handedOut s memory))
+    triggering : Does (triggers 0) (triggered 0 s memory)
+    controls : (result : ℕ) → Does writes (kept memory (controlled result s))
+    ends : (t : V830) → Does clears (kept memory (done 0 t))
+    looks : (v : ℕ) → Does none (kept memory (done v s))
+    enables : (word : ℕ) → Does none (kept memory (enableFor true s word))
+    declines : (why : Answer) → isDone why ≡ false → Does none (kept memory (refused why s))
+
+  control-does : (word : ℕ) (w : Bool) → Does (cond w writes none) (kept memory (controlFor w s word))
+  control-does word true = controls (word % 0x100)
+  control-does word false = looks (s .control)
+
+  enable-does : (word : ℕ) (w : Bool) → Does none (kept memory (enableFor w s word))
+  enable-does word true = enables word
+  enable-does word false = looks (s .enable)
+
+  number-does : (e : Stored) → Does none (kept memory (eventsRead s e))
+  number-does (stored.Number events) = looks (events .0)
+  number-does stored.NoWords = declines Malformed refl
+
+  -- the rows of the table, one after the other
+  pub row-does : (a : Access) → Does (roleOf (call.Access a)) (byTable (λ why. kept memory (refused why s)) (λ at place. performed at place s memory a) (lookUp 0 registers a))
+  row-does a =
+      each-row (λ to. Does (byTable (λ why. none) (λ at place. roleAt at (a .write)) to) (byTable (λ why. kept memory (refused why s)) (λ at place. performed at place s memory a) to))
+      registers a declines
+      (λ place. hands-out)
+      (λ place. looks (getD (s .counts) place 0))
+      (λ place. enable-does (a .«data») (a .write))
+      (λ place. control-does (a .«data») (a .write))
+      (λ place. controls (withBits s (a .«data»)))
+      (λ place. controls (withoutBits s (a .«data»)))
+      (λ place. ends (reset s))
+      (λ place. ends (cleared s))
+      (λ place. triggering)
+      (λ place. looks (s .triggers))
+      (λ place. number-does (eventsIn (settings s) (s .store .stored .0)))
+
   abbrev Restarts : Role → Step → Type 0
   Restarts role r = isWrite role ≡ true → isDone (r .outcome .answer) ≡ true → Restarted s (r .outcome .state)
 
@@ -67,28 +107,15 @@ module _ (s : V830) (memory : List ℕ) where
       (λ w e. record { counts = refl; enable = refl; stored = refl })
       (refuses writes NoMeaning memory refl)
 
-  written : (word : ℕ) (w : Bool) → Restarts (cond w writes none) (kept memory (controlFor w s word))
-  written word true = control-restarts (word % 0x100)
-  written word false = λ w. absurd (false≢true w)
-
-  row-restarts : (at place : ℕ) (a : Access) → Restarts (roleAt at (a .write)) (performed at place s memory a)
-  row-restarts at place a =
-      both-ways Restarts (eqb at 0) _ _ _ _ (λ w. absurd (false≢true w))
-      (both-ways Restarts (eqb at 1) _ _ _ _ (λ w. absurd (false≢true w))
-      (both-ways Restarts (eqb at 2) _ _ _ _ (λ w. absurd (false≢true w))
-      (both-ways Restarts (eqb at 3) _ _ _ _ (written (a .«data») (a .write))
-      (both-ways Restarts (eqb at 4) _ _ _ _ (control-restarts (withBits s (a .«data»)))
-      (both-ways Restarts (eqb at 5) _ _ _ _ (control-restarts (withoutBits s (a .«data»)))
-      (both-ways Restarts (eqb at 6) _ _ _ _ (λ w. absurd (false≢true w))
-      (both-ways Restarts (eqb at 7) _ _ _ _ (λ w. absurd (false≢true w))
-      (both-ways Restarts (eqb at 8) _ _ _ _ (λ w. absurd (false≢true w))
-      (both-ways Restarts (eqb at 9) _ _ _ _ (λ w. absurd (false≢true w))
-      (both-ways Restarts (eqb at 10) _ _ _ _ (λ w. absurd (false≢true w)) (λ w. absurd (false≢true w))))))))))))
-
-  by-row : (to : Register) (a : Access)
-      → Restarts (byTable (λ why. none) (λ at place. roleAt at (a .write)) to) (byTable (λ why. kept memory (refused why s)) (λ at place. performed at place s memory a) to)
-  by-row (Refused why) a = λ w. absurd (false≢true w)
-  by-row (At at place) a = row-restarts at place a
+  -- no other role is a write
+  row-restarts : {role : Role} {r : Step} → Does role r → Restarts role r
+  row-restarts hands-out w = absurd (false≢true w)
+  row-restarts triggering w = absurd (false≢true w)
+  row-restarts (controls result) w = control-restarts result w
+  row-restarts (ends t) w = absurd (false≢true w)
+  row-restarts (looks v) w = absurd (false≢true w)
+  row-restarts (enables word) w = absurd (false≢true w)
+  row-restarts (declines why d) w = absurd (false≢true w)
 
   pub write-restarts : (a : Access) → roleOf (call.Access a) ≡ writes → isDone (stepOf s memory (call.Access a) .outcome .answer) ≡ true
       → Restarted s (stepOf s memory (call.Access a) .outcome .state)
@@ -96,36 +123,20 @@ module _ (s : V830) (memory : List ℕ) where
       let role : Role = roleOf (call.Access a) in
       either-way (Restarts role) (formed s) _ (kept memory (refused Malformed s))
       (either-way (Restarts role) (eqb (length memory) (s .store .capacity .0)) _ (kept memory (refused WrongMemory s))
-      (by-row (lookUp 0 registers a) a)
+      (row-restarts (row-does a))
       (refuses role WrongMemory memory refl))
       (refuses role Malformed memory refl)
       (ap isWrite w)
 
-  -- a trigger by the register is one at row 8
-  abbrev Triggers : Role → Step → Type 0
-  Triggers role r = (source : ℕ) → role ≡ triggers source → r ≡ triggered source s memory
-
-  no-trigger : {role : Role} (r : Step) → isTrigger role ≡ false → Triggers role r
-  no-trigger r n source e = absurd (false≢true (sym n ∙ ap isTrigger e))
-
-  row-triggers : (at place : ℕ) (a : Access) → Triggers (roleAt at (a .write)) (performed at place s memory a)
-  row-triggers at place a =
-      both-ways Triggers (eqb at 0) _ _ _ _ (no-trigger _ refl)
-      (both-ways Triggers (eqb at 1) _ _ _ _ (no-trigger _ refl)
-      (both-ways Triggers (eqb at 2) _ _ _ _ (no-trigger _ refl)
-      (both-ways Triggers (eqb at 3) _ _ _ _ (no-trigger _ (either-way (λ (role : Role). isTrigger role ≡ false) (a .write) writes none refl refl))
-      (both-ways Triggers (eqb at 4) _ _ _ _ (no-trigger _ refl)
-      (both-ways Triggers (eqb at 5) _ _ _ _ (no-trigger _ refl)
-      (both-ways Triggers (eqb at 6) _ _ _ _ (no-trigger _ refl)
-      (both-ways Triggers (eqb at 7) _ _ _ _ (no-trigger _ refl)
-      (both-ways Triggers (eqb at 8) _ _ _ _ (λ source e. ap (λ (n : ℕ). triggered n s memory) (ap sourceOf e))
-      (both-ways Triggers (eqb at 9) _ _ _ _ (no-trigger _ refl)
-      (both-ways Triggers (eqb at 10) _ _ _ _ (no-trigger _ refl) (no-trigger _ refl)))))))))))
-
-  looked-up : (to : Register) (a : Access)
-      → Triggers (byTable (λ why. none) (λ at place. roleAt at (a .write)) to) (byTable (λ why. kept memory (refused why s)) (λ at place. performed at place s memory a) to)
-  looked-up (Refused why) a = no-trigger _ refl
-  looked-up (At at place) a = row-triggers at place a
+  -- a trigger by the register is of source 0
+  row-triggers : {role : Role} {r : Step} → Does role r → (source : ℕ) → role ≡ triggers source → r ≡ triggered source s memory
+  row-triggers hands-out source e = absurd (false≢true (ap isTrigger e))
+  row-triggers triggering source e = ap (λ (n : ℕ). triggered n s memory) (ap sourceOf e)
+  row-triggers (controls result) source e = absurd (false≢true (ap isTrigger e))
+  row-triggers (ends t) source e = absurd (false≢true (ap isTrigger e))
+  row-triggers (looks v) source e = absurd (false≢true (ap isTrigger e))
+  row-triggers (enables word) source e = absurd (false≢true (ap isTrigger e))
+  row-triggers (declines why d) source e = absurd (false≢true (ap isTrigger e))
 
   -- a trigger by line or register is 12, 10, or what a trigger does
   pub trigger-is : (c : Call) (source : ℕ) → roleOf c ≡ triggers source → stepOf s memory c ≡ lent s memory (triggered source s memory)
@@ -134,7 +145,7 @@ module _ (s : V830) (memory : List ℕ) where
   trigger-is call.Test source e = absurd (false≢true (ap isTrigger e))
   trigger-is call.ClearLine source e = absurd (false≢true (ap isTrigger e))
   trigger-is call.TriggerLine source e = ap (λ (n : ℕ). lent s memory (triggered n s memory)) (ap sourceOf e)
-  trigger-is (call.Access a) source e = ap (lent s memory) (looked-up (lookUp 0 registers a) a source e)
+  trigger-is (call.Access a) source e = ap (lent s memory) (row-triggers (row-does a) source e)
   trigger-is call.ManClr source e = absurd (false≢true (ap isTrigger e))
 
   -- and has its reason where it is refused

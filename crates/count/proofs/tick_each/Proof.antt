@@ -11,7 +11,7 @@ use Rattle.count.proofs.tick_each.Statement.{statement}
 use Rattle.count.proofs.tick_each.Tie as tie
 
 abbrev Inv-loop : tie.InvT-loop
-Inv-loop width counts₀ k₀ counts k = (k ≤ length counts) × (length counts ≡ length counts₀) × Mapping (next (bitsOf width)) (map (next (bitsOf width)) counts₀) counts k
+Inv-loop width counts₀ k₀ counts k = (k ≤ length counts) × (length counts ≡ length counts₀) × Mapping (map (next (bitsOf width))) (map (next (bitsOf width)) counts₀) counts k
 
 abbrev μ-loop : tie.MeasureT-loop
 μ-loop width counts₀ k₀ counts k = length counts₀ - k
@@ -43,13 +43,13 @@ loop-less c = search needs
 loop-again : tie.Need-loop-again Inv-loop μ-loop
 loop-again c =
     let l = c .before .before .before .loop in
-    (rw length-set (search needs), rw length-set (l .inv .1), map-turn (l .inv .2) _ (search needs) (ap (λ (t : Ticked). t .value) (c .tick .ensures)))
+    (rw length-set (search needs), rw length-set (l .inv .1), map-turn (l .inv .2) (map (next _)) _ refl (search needs) (ap (λ (t : Ticked). t .value) (c .tick .ensures)))
 
 same-length : tie.Need-same-length Inv-loop μ-loop
 same-length c = search needs
 
 returns : tie.Need-returns Inv-loop μ-loop
-returns c = map-over (c .before .loop .inv .2) (search needs)
+returns c = map-over (c .before .loop .inv .2) refl (search needs)
 
 pub tick-each-spec : {M : Type 1} → statement M
 tick-each-spec =

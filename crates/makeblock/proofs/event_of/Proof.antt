@@ -3,7 +3,9 @@ use mathlib.Core.Path.{_≡_, refl}
 use Prim.Native.Nat.{_-_, _≤_}
 use native.Mathlib.Omega.{arith}
 use lib.ListN.{length, take, drop}
-use Rattle.makeblock.proofs.Copied.{one, all, length-counts, count-at}
+use Rattle.stdio.proofs.Moving.{one-more}
+use Rattle.head.proofs.CountedUp.{all}
+use Rattle.makeblock.proofs.Copied.{length-counts, count-at}
 use borrow.Author.Needs.{needs}
 use Rattle.makeblock.proofs.event_of.Statement.{statement}
 use Rattle.makeblock.proofs.event_of.Tie as tie
@@ -42,7 +44,7 @@ loop-again : tie.Need-loop-again Inv-loop μ-loop
 loop-again c =
     let l = c .before .loop in
     let vs = c .before .before .before .args .head .values in
-    (search needs, l .inv .1, search needs, one (take 32 (drop 7 vs)) (l .counts) (l .k) _ (omega arith) (omega (arith, length-counts vs (l .inv .1))) (count-at vs (l .inv .1) (l .k) (omega arith)) (l .inv .3))
+    (search needs, l .inv .1, search needs, one-more (take 32 (drop 7 vs)) (l .counts) (l .k) _ (omega arith) (omega (arith, length-counts vs (l .inv .1))) (count-at vs (l .inv .1) (l .k) (omega arith)) (l .inv .3))
 
 array-read-t16 : tie.Need-array-read-t16 Inv-loop μ-loop
 array-read-t16 c = search needs

@@ -3,8 +3,9 @@ use mathlib.Core.Path.{_≡_, refl}
 use Prim.Native.Nat.{_-_, _≤_}
 use native.Mathlib.Omega.{arith}
 use lib.ListN.{length, take}
-use Rattle.makeblock.specs.Asked.{upFrom}
-use Rattle.makeblock.proofs.Copied.{one, all, length-up, up-at}
+use Rattle.head.specs.Heads.{upFrom}
+use Rattle.stdio.proofs.Moving.{one-more}
+use Rattle.head.proofs.CountedUp.{all, length-up, up-at}
 use borrow.Author.Needs.{needs}
 use Rattle.makeblock.proofs.first_words.Statement.{statement}
 use Rattle.makeblock.proofs.first_words.Tie as tie
@@ -39,7 +40,7 @@ loop-less c = search needs
 loop-again : tie.Need-loop-again Inv-loop μ-loop
 loop-again c =
     let l = c .before .loop in
-    (search needs, search needs, one (upFrom 64 1) (l .words) (l .i) _ (omega arith) (omega (arith, length-up 64 1)) (omega (arith, up-at 64 1 (l .i) (omega arith))) (l .inv .2))
+    (search needs, search needs, one-more (upFrom 64 1) (l .words) (l .i) _ (omega arith) (omega (arith, length-up 64 1)) (omega (arith, up-at 64 1 (l .i) (omega arith))) (l .inv .2))
 
 returns : tie.Need-returns Inv-loop μ-loop
 returns c =

@@ -12,6 +12,12 @@ Inv-loop buf₀ out₀ memory₀ which at course₀ turns₀ buf out memory cour
 abbrev μ-loop : tie.MeasureT-loop
 μ-loop buf₀ out₀ memory₀ which at course₀ turns₀ buf out memory course turns = turns
 
+array-read-which-of : tie.Need-array-read-which-of Inv-loop μ-loop
+array-read-which-of c = search needs
+
+which-of-requires : tie.Need-which-of-requires Inv-loop μ-loop
+which-of-requires c κs = search needs
+
 begin-requires : tie.Need-begin-requires Inv-loop μ-loop
 begin-requires c κs = search needs
 
@@ -60,6 +66,8 @@ list-entries-spec =
     (tie.spec
     Inv-loop
     μ-loop
+    array-read-which-of
+    which-of-requires
     begin-requires
     put-names-requires
     put-held-requires

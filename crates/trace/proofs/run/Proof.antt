@@ -20,6 +20,12 @@ slice-aggregate-head-in c = sym (length-take-le _ _ (c .before .before .before .
 head-in-requires : tie.Need-head-in-requires
 head-in-requires c κs = search needs
 
+array-read-which-of : tie.Need-array-read-which-of
+array-read-which-of c = search needs
+
+which-of-requires : tie.Need-which-of-requires
+which-of-requires c κs = search needs
+
 lent-requires : tie.Need-lent-requires
 lent-requires c κs = search needs
 
@@ -68,6 +74,8 @@ run-spec =
     slice-reshare-prefix-head-in
     slice-aggregate-head-in
     head-in-requires
+    array-read-which-of
+    which-of-requires
     lent-requires
     slice-relend-prefix-list-entries
     slice-aggregate-list-entries

@@ -1,8 +1,8 @@
 -- What is left of the counts decides; one turn is one clause of the definition. Assumes nothing.
 use mathlib.Core.Path.{_≡_, refl, sym, _∙_}
 use Prim.Native.Nat.{_-_, _≤_}
-use borrow.Author.Tests.{not-true, not-false}
 use lib.ListN.{length, drop}
+use Rattle.count.proofs.Tests.{holds, fails}
 use Rattle.layout.specs.Writer.{countsFit}
 use Rattle.layout.proofs.Data.{fit-fails, fit-goes-on, fit-ends}
 use borrow.Author.Needs.{needs}
@@ -31,7 +31,7 @@ returns : tie.Need-returns Inv-loop μ-loop
 returns c =
     let l = c .before .before .before .loop in
     let a = c .before .before .before .before .before .args in
-    sym (sym (l .inv .2) ∙ fit-fails (a .settings .short) (l .mask) _ (l .k) (search needs) (sym (c .before .count-fits .ensures) ∙ not-true (c .before .count-fits .result) (c .if1 .taken)))
+    sym (sym (l .inv .2) ∙ fit-fails (a .settings .short) (l .mask) _ (l .k) (search needs) (fails (c .before .count-fits .ensures) (c .if1 .taken)))
 
 add-k : tie.Need-add-k Inv-loop μ-loop
 add-k c = search needs
@@ -43,7 +43,7 @@ loop-again : tie.Need-loop-again Inv-loop μ-loop
 loop-again c =
     let l = c .before .before .before .loop in
     let a = c .before .before .before .before .before .args in
-    (search needs, l .inv .1, sym (fit-goes-on (a .settings .short) (l .mask) _ (l .k) (search needs) (sym (c .before .count-fits .ensures) ∙ not-false (c .before .count-fits .result) (c .if1 .left))) ∙ l .inv .2)
+    (search needs, l .inv .1, sym (fit-goes-on (a .settings .short) (l .mask) _ (l .k) (search needs) (holds (c .before .count-fits .ensures) (c .if1 .left))) ∙ l .inv .2)
 
 returns-2 : tie.Need-returns-2 Inv-loop μ-loop
 returns-2 c =

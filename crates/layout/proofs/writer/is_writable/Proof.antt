@@ -1,6 +1,5 @@
 -- The tests of the definition, in its order. Assumes nothing.
-use mathlib.Core.Path.{sym, _∙_}
-use borrow.Author.Tests.{not-true, not-false}
+use Rattle.count.proofs.Tests.{holds, fails}
 use Rattle.layout.specs.Writer.{writable}
 use borrow.Author.Needs.{needs}
 use Rattle.layout.proofs.writer.is_writable.Statement.{statement}
@@ -11,28 +10,28 @@ fields-fit-requires c κs = search needs
 
 returns : tie.Need-returns
 unfolding writable
-returns c = rw (sym (c .before .fields-fit .ensures) ∙ not-true (c .before .fields-fit .result) (c .if1 .taken))
+returns c = rw (fails (c .before .fields-fit .ensures) (c .if1 .taken))
 
 counts-fit-requires : tie.Need-counts-fit-requires
 counts-fit-requires c κs = search needs
 
 returns-2 : tie.Need-returns-2
 unfolding writable
-returns-2 c = rw (sym (c .before .before .before .fields-fit .ensures) ∙ not-false (c .before .before .before .fields-fit .result) (c .before .before .if1 .left), c .before .if2 .taken) (c .counts-fit .ensures)
+returns-2 c = rw (holds (c .before .before .before .fields-fit .ensures) (c .before .before .if1 .left), c .before .if2 .taken) (c .counts-fit .ensures)
 
 fields-are-zero-requires : tie.Need-fields-are-zero-requires
 fields-are-zero-requires c κs = search needs
 
 returns-3 : tie.Need-returns-3
 unfolding writable
-returns-3 c = rw (sym (c .before .before .before .before .fields-fit .ensures) ∙ not-false (c .before .before .before .before .fields-fit .result) (c .before .before .before .if1 .left), c .before .before .if2 .left, sym (c .before .fields-are-zero .ensures) ∙ not-true (c .before .fields-are-zero .result) (c .if3 .taken))
+returns-3 c = rw (holds (c .before .before .before .before .fields-fit .ensures) (c .before .before .before .if1 .left), c .before .before .if2 .left, fails (c .before .fields-are-zero .ensures) (c .if3 .taken))
 
 counts-fit-requires-2 : tie.Need-counts-fit-requires-2
 counts-fit-requires-2 c κs = search needs
 
 returns-4 : tie.Need-returns-4
 unfolding writable
-returns-4 c = rw (sym (c .before .before .before .before .before .fields-fit .ensures) ∙ not-false (c .before .before .before .before .before .fields-fit .result) (c .before .before .before .before .if1 .left), c .before .before .before .if2 .left, sym (c .before .before .fields-are-zero .ensures) ∙ not-false (c .before .before .fields-are-zero .result) (c .before .if3 .left)) (c .counts-fit2 .ensures)
+returns-4 c = rw (holds (c .before .before .before .before .before .fields-fit .ensures) (c .before .before .before .before .if1 .left), c .before .before .before .if2 .left, holds (c .before .before .fields-are-zero .ensures) (c .before .if3 .left)) (c .counts-fit2 .ensures)
 
 pub is-writable-spec : {M : Type 1} → statement M
 is-writable-spec =

@@ -17,7 +17,7 @@ put-data-requires : tie.Need-put-data-requires
 put-data-requires c κs =
     let s = c .before .before .before .before in
     let h = rw (c .before .before .if1 .taken) at (s .pre .3) in
-    rw length-set (omega (arith, length-enabled 32 0 (s .args .settings .enable) (search needs)))
+    rw length-set (omega (arith, length-enabled 32 0 (s .args .settings .enable)))
 
 same-length : tie.Need-same-length
 same-length c = c .before .before .put-data .kept .1 .1 .0 ∙ simp length-set
@@ -28,7 +28,7 @@ returns c = rw (c .before .before .before .before .before .if1 .taken) (c .befor
 put-data-requires-2 : tie.Need-put-data-requires-2
 put-data-requires-2 c κs =
     let s = c .before .before .before in
-    omega (arith, length-enabled 32 0 (s .args .settings .enable) (search needs), s .pre .3)
+    omega (arith, length-enabled 32 0 (s .args .settings .enable), s .pre .3)
 
 same-length-2 : tie.Need-same-length-2
 same-length-2 c = search needs

@@ -1,10 +1,9 @@
 -- 12, then what the table says; a place that is reached lies within its row. Assumes nothing.
 use mathlib.Core.Path.{refl, sym, _∙_}
-use native.Mathlib.Omega.{arith}
 use Rattle.bus.specs.Interrupting.{wellFormed}
 use Rattle.bus.proofs.Places.{places-narrow, right-of}
+use Rattle.count.proofs.Tests.{holds, fails}
 use Rattle.v260.specs.Registers.{registers}
-use borrow.Author.Tests.{not-true, not-false}
 use borrow.Author.Needs.{needs}
 use Rattle.v260.proofs.by_value.access.Statement.{statement}
 use Rattle.v260.proofs.by_value.access.Tie as tie
@@ -16,7 +15,7 @@ refused-requires : tie.Need-refused-requires
 refused-requires c κs = search needs
 
 returns : tie.Need-returns
-returns c = rw (sym (c .before .before .is-formed .ensures) ∙ not-true (c .before .before .is-formed .result) (c .before .if1 .taken)) (c .refused .ensures)
+returns c = rw (fails (c .before .before .is-formed .ensures) (c .before .if1 .taken)) (c .refused .ensures)
 
 looked-up-requires : tie.Need-looked-up-requires
 looked-up-requires c κs = search needs
@@ -35,18 +34,18 @@ perform-requires c κs =
     let l = c .before .before .before in
     let w = l .before .before in
     let a = w .before .args in
-    let h = right-of (wellFormed (a .i)) _ (sym (w .is-formed .ensures) ∙ not-false (w .is-formed .result) (l .before .if1 .left)) in
+    let h = right-of (wellFormed (a .i)) _ (holds (w .is-formed .ensures) (l .before .if1 .left)) in
     (rw (sym (l .looked-up .ensures) ∙ c .before .row .given .1) at (places-narrow (λ _. 16) 0 registers (a .a) refl), h)
 
 returns-2 : tie.Need-returns-2
 returns-2 c =
     let l = c .before .before .before .before in
-    rw (sym (l .before .before .is-formed .ensures) ∙ not-false (l .before .before .is-formed .result) (l .before .if1 .left), sym (l .looked-up .ensures) ∙ c .before .before .why .given .1) (c .refused2 .ensures)
+    rw (holds (l .before .before .is-formed .ensures) (l .before .if1 .left), sym (l .looked-up .ensures) ∙ c .before .before .why .given .1) (c .refused2 .ensures)
 
 returns-3 : tie.Need-returns-3
 returns-3 c =
     let l = c .before .before .before .before in
-    rw (sym (l .before .before .is-formed .ensures) ∙ not-false (l .before .before .is-formed .result) (l .before .if1 .left), sym (l .looked-up .ensures) ∙ c .before .before .row .given .1) (c .perform .ensures)
+    rw (holds (l .before .before .is-formed .ensures) (l .before .if1 .left), sym (l .looked-up .ensures) ∙ c .before .before .row .given .1) (c .perform .ensures)
 
 pub access-spec : {M : Type 1} → statement M
 access-spec =

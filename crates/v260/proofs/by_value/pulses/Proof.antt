@@ -1,7 +1,7 @@
 -- 12, 11, or the pulses one after the other. Assumes nothing.
-use mathlib.Core.Path.{sym, _∙_}
-use borrow.Author.Tests.{not-true, not-false, lt-ltb, le-ltb}
+use borrow.Author.Tests.{lt-ltb, le-ltb}
 use borrow.Author.Needs.{needs}
+use Rattle.count.proofs.Tests.{holds, fails}
 use Rattle.v260.proofs.by_value.pulses.Statement.{statement}
 use Rattle.v260.proofs.by_value.pulses.Tie as tie
 
@@ -12,19 +12,19 @@ refused-requires : tie.Need-refused-requires
 refused-requires c κs = search needs
 
 returns : tie.Need-returns
-returns c = rw (sym (c .before .before .is-formed .ensures) ∙ not-true (c .before .before .is-formed .result) (c .before .if1 .taken)) (c .refused .ensures)
+returns c = rw (fails (c .before .before .is-formed .ensures) (c .before .if1 .taken)) (c .refused .ensures)
 
 refused-requires-2 : tie.Need-refused-requires-2
 refused-requires-2 c κs = search needs
 
 returns-2 : tie.Need-returns-2
-returns-2 c = rw (sym (c .before .before .before .is-formed .ensures) ∙ not-false (c .before .before .before .is-formed .result) (c .before .before .if1 .left), le-ltb _ 16 (c .before .if2 .taken)) (c .refused2 .ensures)
+returns-2 c = rw (holds (c .before .before .before .is-formed .ensures) (c .before .before .if1 .left), le-ltb _ 16 (c .before .if2 .taken)) (c .refused2 .ensures)
 
 pulse-often-requires : tie.Need-pulse-often-requires
 pulse-often-requires c κs = search needs
 
 returns-3 : tie.Need-returns-3
-returns-3 c = rw (sym (c .before .before .before .is-formed .ensures) ∙ not-false (c .before .before .before .is-formed .result) (c .before .before .if1 .left), lt-ltb (c .before .before .before .before .args .channel) 16 (search needs)) (c .pulse-often .ensures)
+returns-3 c = rw (holds (c .before .before .before .is-formed .ensures) (c .before .before .if1 .left), lt-ltb (c .before .before .before .before .args .channel) 16 (search needs)) (c .pulse-often .ensures)
 
 pub pulses-spec : {M : Type 1} → statement M
 pulses-spec =

@@ -7,8 +7,8 @@ use lib.ListN.{length, getD, length-set}
 use Rattle.count.specs.Counter.{carries}
 use Rattle.scaler.specs.Clock.{clocked}
 use Rattle.scaler.proofs.Clocks.{clocked-stops, clocked-on, clocked-over}
+use Rattle.count.proofs.Tests.{holds, fails}
 use Rattle.v260.specs.Counting.{after, isJoined, pulsed}
-use borrow.Author.Tests.{not-true, not-false}
 use borrow.Author.Needs.{needs}
 use Rattle.v260.proofs.counting.counts_after.Statement.{statement}
 use Rattle.v260.proofs.counting.counts_after.Tie as tie
@@ -47,7 +47,7 @@ returns c =
     let t = u .before .tick in
     let l = u .before .before .before .loop in
     let switches = u .before .before .before .before .args .switches in
-    let n : carries 24 (getD (l .counts) (l .k) 0) ≡ false = sym (ap (λ (t : Ticked). t .carry) (t .ensures)) ∙ not-true (t .result .carry) (c .if1 .taken) in
+    let n : carries 24 (getD (l .counts) (l .k) 0) ≡ false = fails (ap (λ (t : Ticked). t .carry) (t .ensures)) (c .if1 .taken) in
     rw (t .ensures) (sym (clocked-stops 24 (λ k. isJoined switches (after k)) after (l .left) (l .k) (l .counts) (search needs) (rw n)) ∙ l .inv .2)
 
 is-joined-requires : tie.Need-is-joined-requires Inv-loop μ-loop
@@ -59,8 +59,8 @@ returns-2 c =
     let t = u .before .tick in
     let l = u .before .before .before .loop in
     let switches = u .before .before .before .before .args .switches in
-    let n : carries 24 (getD (l .counts) (l .k) 0) ≡ true = sym (ap (λ (t : Ticked). t .carry) (t .ensures)) ∙ not-false (t .result .carry) (c .before .before .if1 .left) in
-    let j : isJoined switches (after (l .k)) ≡ false = sym (c .before .is-joined .ensures) ∙ not-true (c .before .is-joined .result) (c .if2 .taken) in
+    let n : carries 24 (getD (l .counts) (l .k) 0) ≡ true = holds (ap (λ (t : Ticked). t .carry) (t .ensures)) (c .before .before .if1 .left) in
+    let j : isJoined switches (after (l .k)) ≡ false = fails (c .before .is-joined .ensures) (c .if2 .taken) in
     rw (t .ensures) (sym (clocked-stops 24 (λ k. isJoined switches (after k)) after (l .left) (l .k) (l .counts) (search needs) (rw (n, j))) ∙ l .inv .2)
 
 sub-left : tie.Need-sub-left Inv-loop μ-loop
@@ -75,8 +75,8 @@ loop-again c =
     let t = u .before .tick in
     let l = u .before .before .before .loop in
     let switches = u .before .before .before .before .args .switches in
-    let n : carries 24 (getD (l .counts) (l .k) 0) ≡ true = sym (ap (λ (t : Ticked). t .carry) (t .ensures)) ∙ not-false (t .result .carry) (c .before .before .if1 .left) in
-    let j : isJoined switches (after (l .k)) ≡ true = sym (c .before .is-joined .ensures) ∙ not-false (c .before .is-joined .result) (c .if2 .left) in
+    let n : carries 24 (getD (l .counts) (l .k) 0) ≡ true = holds (ap (λ (t : Ticked). t .carry) (t .ensures)) (c .before .before .if1 .left) in
+    let j : isJoined switches (after (l .k)) ≡ true = holds (c .before .is-joined .ensures) (c .if2 .left) in
     (search needs, rw length-set (l .inv .1), rw (t .ensures) (sym (clocked-on 24 (λ k. isJoined switches (after k)) after (l .left) (l .k) (l .counts) (search needs) (rw (n, j))) ∙ l .inv .2))
 
 returns-3 : tie.Need-returns-3 Inv-loop μ-loop

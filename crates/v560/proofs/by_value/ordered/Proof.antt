@@ -1,7 +1,6 @@
 -- 12, or what the order does. Assumes nothing.
-use mathlib.Core.Path.{sym, _∙_}
-use borrow.Author.Tests.{not-true, not-false}
 use borrow.Author.Needs.{needs}
+use Rattle.count.proofs.Tests.{holds, fails}
 use Rattle.v560.proofs.by_value.ordered.Statement.{statement}
 use Rattle.v560.proofs.by_value.ordered.Tie as tie
 
@@ -12,13 +11,13 @@ refused-requires : tie.Need-refused-requires
 refused-requires c κs = search needs
 
 returns : tie.Need-returns
-returns c = rw (sym (c .before .before .is-well-formed .ensures) ∙ not-true (c .before .before .is-well-formed .result) (c .before .if1 .taken)) (c .refused .ensures)
+returns c = rw (fails (c .before .before .is-well-formed .ensures) (c .before .if1 .taken)) (c .refused .ensures)
 
 obeyed-requires : tie.Need-obeyed-requires
 obeyed-requires c κs = search needs
 
 returns-2 : tie.Need-returns-2
-returns-2 c = rw (sym (c .before .before .is-well-formed .ensures) ∙ not-false (c .before .before .is-well-formed .result) (c .before .if1 .left)) (c .obeyed .ensures)
+returns-2 c = rw (holds (c .before .before .is-well-formed .ensures) (c .before .if1 .left)) (c .obeyed .ensures)
 
 pub ordered-spec : {M : Type 1} → statement M
 ordered-spec =

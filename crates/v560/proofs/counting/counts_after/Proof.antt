@@ -1,6 +1,6 @@
 -- The low part counts; its carry clocks the high part, and nothing lies behind that. Assumes nothing.
 use Prim.Native.Nat.{ℕ, _%_}
-use mathlib.Core.Path.{_≡_, sym, ap, _∙_}
+use mathlib.Core.Path.{_≡_, ap}
 use mathlib.Core.Bool.{true}
 use native.Mathlib.Omega.{arith}
 use lib.Dec.{eqb}
@@ -8,8 +8,9 @@ use Rattle.count.specs.declared.Ticked.{Ticked}
 use Rattle.bus.proofs.Places.{right-of}
 use Rattle.scaler.specs.Clock.{clocked}
 use Rattle.bus.proofs.Choices.{cond-same}
+use Rattle.count.proofs.Tests.{holds, fails}
 use Rattle.v560.specs.Counting.{isJoined, isLow}
-use borrow.Author.Tests.{not-true, not-false, eqb-true}
+use borrow.Author.Tests.{eqb-true}
 use borrow.Author.Needs.{needs}
 use Rattle.v560.proofs.counting.counts_after.Statement.{statement}
 use Rattle.v560.proofs.counting.counts_after.Tie as tie
@@ -37,7 +38,7 @@ returns : tie.Need-returns
 unfolding clocked
 returns c =
     let t = c .before .before .tick in
-    let n = sym (ap (λ (t : Ticked). t .carry) (t .ensures)) ∙ not-true (t .result .carry) (c .if1 .taken) in
+    let n = fails (ap (λ (t : Ticked). t .carry) (t .ensures)) (c .if1 .taken) in
     rw (n, t .ensures)
 
 is-low-requires : tie.Need-is-low-requires
@@ -47,13 +48,13 @@ returns-2 : tie.Need-returns-2
 unfolding clocked
 returns-2 c =
     let t = c .before .before .before .before .tick in
-    let n = sym (ap (λ (t : Ticked). t .carry) (t .ensures)) ∙ not-false (t .result .carry) (c .before .before .if1 .left) in
-    rw (n, sym (c .before .is-low .ensures) ∙ not-true (c .before .is-low .result) (c .if2 .taken), t .ensures)
+    let n = holds (ap (λ (t : Ticked). t .carry) (t .ensures)) (c .before .before .if1 .left) in
+    rw (n, fails (c .before .is-low .ensures) (c .if2 .taken), t .ensures)
 
 sub-tick : tie.Need-sub-tick
 sub-tick c =
     let k = c .before .before .before .before .before .args .channel in
-    omega (arith, odd (c .before .before .before .before .before .args .joined) k (sym (c .before .is-low .ensures) ∙ not-false (c .before .is-low .result) (c .if2 .left)))
+    omega (arith, odd (c .before .before .before .before .before .args .joined) k (holds (c .before .is-low .ensures) (c .if2 .left)))
 
 mul-tick-2 : tie.Need-mul-tick-2
 mul-tick-2 c = search needs
@@ -68,7 +69,7 @@ sub-counts : tie.Need-sub-counts
 sub-counts c =
     let l = c .before .before in
     let k = l .before .before .before .before .args .channel in
-    omega (arith, odd (l .before .before .before .before .args .joined) k (sym (l .is-low .ensures) ∙ not-false (l .is-low .result) (c .before .if2 .left)))
+    omega (arith, odd (l .before .before .before .before .args .joined) k (holds (l .is-low .ensures) (c .before .if2 .left)))
 
 mul-counts-2 : tie.Need-mul-counts-2
 mul-counts-2 c = search needs
@@ -81,8 +82,8 @@ unfolding clocked
 returns-3 c =
     let l = c .before .before in
     let t = l .before .before .before .tick in
-    let n = sym (ap (λ (t : Ticked). t .carry) (t .ensures)) ∙ not-false (t .result .carry) (l .before .if1 .left) in
-    rw (n, sym (l .is-low .ensures) ∙ not-false (l .is-low .result) (c .before .if2 .left), cond-same, c .tick2 .ensures, t .ensures)
+    let n = holds (ap (λ (t : Ticked). t .carry) (t .ensures)) (l .before .if1 .left) in
+    rw (n, holds (l .is-low .ensures) (c .before .if2 .left), cond-same, c .tick2 .ensures, t .ensures)
 
 pub counts-after-spec : {M : Type 1} → statement M
 counts-after-spec =

@@ -4,8 +4,9 @@ use mathlib.Core.Bool.{true, cond}
 use denote.Ref.{now}
 use lib.Dec.{eqb}
 use lib.ListN.{length}
-use borrow.Author.Tests.{not-true, not-false, eqb-true}
+use borrow.Author.Tests.{eqb-true}
 use Rattle.bus.proofs.Places.{places-narrow}
+use Rattle.count.proofs.Tests.{holds, fails}
 use Rattle.v830.specs.Registers.{registers}
 use Rattle.v830.specs.State.{formed}
 use borrow.Author.Needs.{needs}
@@ -14,10 +15,10 @@ use Rattle.v830.proofs.calls.access.Tie as tie
 
 -- the module is formed behind the first test, and its memory lent behind the second
 formed-here : (c : tie.Else1) → formed (c .before .before .before .args .s) ≡ true
-formed-here c = sym (c .before .is-formed .ensures) ∙ not-false (c .before .is-formed .result) (c .if1 .left)
+formed-here c = holds (c .before .is-formed .ensures) (c .if1 .left)
 
 lent-here : (c : tie.Else2) → eqb (length (now (c .before .before .before .before .before .before .args .memory))) (c .before .before .before .before .before .before .args .s .store .capacity .0) ≡ true
-lent-here c = sym (c .before .has-length .ensures) ∙ not-false (c .before .has-length .result) (c .if2 .left)
+lent-here c = holds (c .before .has-length .ensures) (c .if2 .left)
 
 is-formed-requires : tie.Need-is-formed-requires
 is-formed-requires c κs = search needs
@@ -26,7 +27,7 @@ refused-requires : tie.Need-refused-requires
 refused-requires c κs = search needs
 
 returns : tie.Need-returns
-returns c = let f = c .before .before .is-formed in rw (sym (f .ensures) ∙ not-true (f .result) (c .before .if1 .taken)) (c .refused .ensures, refl)
+returns c = rw (fails (c .before .before .is-formed .ensures) (c .before .if1 .taken)) (c .refused .ensures, refl)
 
 has-length-requires : tie.Need-has-length-requires
 has-length-requires c κs = search needs
@@ -38,7 +39,7 @@ same-length : tie.Need-same-length
 same-length c = search needs
 
 returns-2 : tie.Need-returns-2
-returns-2 c = let h = c .before .before .has-length in rw (formed-here (c .before .before .before .before), sym (h .ensures) ∙ not-true (h .result) (c .before .if2 .taken)) (c .refused2 .ensures, refl)
+returns-2 c = rw (formed-here (c .before .before .before .before), fails (c .before .before .has-length .ensures) (c .before .if2 .taken)) (c .refused2 .ensures, refl)
 
 looked-up-requires : tie.Need-looked-up-requires
 looked-up-requires c κs = search needs

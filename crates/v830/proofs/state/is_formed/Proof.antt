@@ -1,6 +1,6 @@
 -- Each test is one part of the definition. Assumes nothing.
-use mathlib.Core.Path.{sym, _∙_}
-use borrow.Author.Tests.{lt-leb, le-leb, not-true, not-false}
+use borrow.Author.Tests.{lt-leb, le-leb}
+use Rattle.count.proofs.Tests.{holds, fails}
 use Rattle.v830.specs.State.{formed}
 use borrow.Author.Needs.{needs}
 use Rattle.v830.proofs.state.is_formed.Statement.{statement}
@@ -15,7 +15,7 @@ store-fits-requires c κs = search needs
 
 returns-2 : tie.Need-returns-2
 unfolding formed
-returns-2 c = let f = c .before .store-fits in rw (le-leb _ _ (c .before .before .before .if1 .left), sym (f .ensures) ∙ not-true (f .result) (c .if2 .taken))
+returns-2 c = rw (le-leb _ _ (c .before .before .before .if1 .left), fails (c .before .store-fits .ensures) (c .if2 .taken))
 
 is-explained-requires : tie.Need-is-explained-requires
 is-explained-requires c κs = search needs
@@ -25,7 +25,7 @@ unfolding formed
 returns-3 c =
     let e = c .before .is-explained in
     let f = c .before .before .before .store-fits in
-    rw (le-leb _ _ (c .before .before .before .before .before .if1 .left), sym (f .ensures) ∙ not-false (f .result) (c .before .before .if2 .left), sym (e .ensures) ∙ not-true (e .result) (c .if3 .taken))
+    rw (le-leb _ _ (c .before .before .before .before .before .if1 .left), holds (f .ensures) (c .before .before .if2 .left), fails (e .ensures) (c .if3 .taken))
 
 mode-requires : tie.Need-mode-requires
 mode-requires c κs = search needs
@@ -35,7 +35,7 @@ unfolding formed
 returns-4 c =
     let e = c .before .before .is-explained in
     let f = c .before .before .before .before .store-fits in
-    rw (le-leb _ _ (c .before .before .before .before .before .before .if1 .left), sym (f .ensures) ∙ not-false (f .result) (c .before .before .before .if2 .left), sym (e .ensures) ∙ not-false (e .result) (c .before .if3 .left), ← c .mode .ensures)
+    rw (le-leb _ _ (c .before .before .before .before .before .before .if1 .left), holds (f .ensures) (c .before .before .before .if2 .left), holds (e .ensures) (c .before .if3 .left), ← c .mode .ensures)
 
 pub is-formed-spec : {M : Type 1} → statement M
 is-formed-spec =

@@ -1,0 +1,2 @@
+pub mod EveryCaseRight
+pub mod Steps

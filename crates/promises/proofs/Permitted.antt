@@ -1,0 +1,277 @@
+-- Any two permitted results of a public function are equal, the new state and every lent word among them: of each function's contract, as the check reads it off the function's own
+-- clauses (`Post`). By `determined`, since each contract is an equation with what a definition gives for the input. Not here, because they read from the system, of which no equation can speak:
+-- `stdio::refill`, `stdio::read_on` and `head::begin` (docs/PROMISES.md says of each what that leaves open). Assumes nothing.
+use denote.Ref.{now}
+use Rattle.count.proofs.Determined.{determined, OneResult, OneContent, OneOutcome}
+use Rattle.count.proofs.tick.Reads as count-tick
+use Rattle.count.proofs.bit_rose.Reads as count-bit-rose
+use Rattle.count.proofs.tick_each.Reads as count-tick-each
+use Rattle.bus.proofs.interrupter.Interrupter.power_on.Reads as bus-power-on
+use Rattle.bus.proofs.interrupter.Interrupter.is_well_formed.Reads as bus-is-well-formed
+use Rattle.bus.proofs.interrupter.Interrupter.generating.Reads as bus-generating
+use Rattle.bus.proofs.interrupter.Interrupter.released.Reads as bus-released
+use Rattle.bus.proofs.interrupter.Interrupter.cleared.Reads as bus-cleared
+use Rattle.bus.proofs.interrupter.Interrupter.raised.Reads as bus-raised
+use Rattle.bus.proofs.interrupter.Interrupter.levelled.Reads as bus-levelled
+use Rattle.bus.proofs.interrupter.Interrupter.vectored.Reads as bus-vectored
+use Rattle.bus.proofs.numbered.Reads as bus-numbered
+use Rattle.bus.proofs.table.look_up.Reads as bus-look-up
+use Rattle.benchlog.proofs.read_argument.Reads as benchlog-read-argument
+use Rattle.benchlog.proofs.read_entry.Reads as benchlog-read-entry
+use Rattle.benchlog.proofs.fault_number.Reads as benchlog-fault-number
+use Rattle.benchlog.proofs.numbers_of.Reads as benchlog-numbers-of
+use Rattle.benchlog.proofs.read_number.Reads as benchlog-read-number
+use Rattle.layout.proofs.numbered.Reads as layout-numbered
+use Rattle.layout.proofs.event_length.Reads as layout-event-length
+use Rattle.layout.proofs.events_in.Reads as layout-events-in
+use Rattle.layout.proofs.read_event.Reads as layout-read-event
+use Rattle.layout.proofs.write_event.Reads as layout-write-event
+use Rattle.scaler.proofs.Scales.power_on.Reads as scaler-power-on
+use Rattle.scaler.proofs.Scales.is_inhibited.Reads as scaler-is-inhibited
+use Rattle.scaler.proofs.obey.Reads as scaler-obey
+use Rattle.v560.proofs.by_value.access.Reads as v560-access
+use Rattle.v560.proofs.by_value.pulses.Reads as v560-pulses
+use Rattle.v560.proofs.by_value.test.Reads as v560-test
+use Rattle.v560.proofs.by_value.clear_line.Reads as v560-clear-line
+use Rattle.v560.proofs.by_value.veto_line.Reads as v560-veto-line
+use Rattle.v560.proofs.by_value.man_clr.Reads as v560-man-clr
+use Rattle.v560.proofs.by_value.step.Reads as v560-step
+use Rattle.v560.proofs.start.Reads as v560-start
+use Rattle.v260.proofs.by_value.access.Reads as v260-access
+use Rattle.v260.proofs.by_value.pulses.Reads as v260-pulses
+use Rattle.v260.proofs.by_value.test.Reads as v260-test
+use Rattle.v260.proofs.by_value.clear_line.Reads as v260-clear-line
+use Rattle.v260.proofs.by_value.veto_line.Reads as v260-veto-line
+use Rattle.v260.proofs.by_value.man_clr.Reads as v260-man-clr
+use Rattle.v260.proofs.by_value.step.Reads as v260-step
+use Rattle.v260.proofs.start.Reads as v260-start
+use Rattle.v830.proofs.pulses.Reads as v830-pulses
+use Rattle.v830.proofs.veto_line.Reads as v830-veto-line
+use Rattle.v830.proofs.test.Reads as v830-test
+use Rattle.v830.proofs.clear_line.Reads as v830-clear-line
+use Rattle.v830.proofs.trigger_line.Reads as v830-trigger-line
+use Rattle.v830.proofs.access.Reads as v830-access
+use Rattle.v830.proofs.step.Reads as v830-step
+use Rattle.v830.proofs.start.Reads as v830-start
+use Rattle.modules.proofs.act.Reads as modules-act
+use Rattle.modules.proofs.begin.Reads as modules-begin
+use Rattle.modules.proofs.lent.Reads as modules-lent
+use Rattle.head.proofs.read_head.Reads as head-read-head
+use Rattle.text.proofs.fits.Reads as text-fits
+use Rattle.text.proofs.put_text.Reads as text-put-text
+use Rattle.text.proofs.put_words.Reads as text-put-words
+use Rattle.text.proofs.put_number.Reads as text-put-number
+use Rattle.text.proofs.put_line.Reads as text-put-line
+use Rattle.text.proofs.put_fault.Reads as text-put-fault
+use Rattle.stdio.proofs.begin.Reads as stdio-begin
+use Rattle.stdio.proofs.place.Reads as stdio-place
+use Rattle.stdio.proofs.end.Reads as stdio-end
+use Rattle.stdio.proofs.flush.Reads as stdio-flush
+use Rattle.stdio.proofs.make_room.Reads as stdio-make-room
+
+-- ---- count
+pub one-count-tick : OneResult count-tick.Post
+one-count-tick κ given first second e d p q = determined p q
+
+pub one-count-bit-rose : OneResult count-bit-rose.Post
+one-count-bit-rose κ given first second e d p q = determined p q
+
+pub one-count-tick-each : OneContent count-tick-each.Post (λ κ e. now (e .1 .0))
+one-count-tick-each κ given first second e d p q = determined p q
+
+-- ---- bus
+pub one-bus-power-on : OneResult bus-power-on.Post
+one-bus-power-on κ given first second e d p q = determined p q
+
+pub one-bus-is-well-formed : OneResult bus-is-well-formed.Post
+one-bus-is-well-formed κ given first second e d p q = determined p q
+
+pub one-bus-generating : OneResult bus-generating.Post
+one-bus-generating κ given first second e d p q = determined p q
+
+pub one-bus-released : OneResult bus-released.Post
+one-bus-released κ given first second e d p q = determined p q
+
+pub one-bus-cleared : OneResult bus-cleared.Post
+one-bus-cleared κ given first second e d p q = determined p q
+
+pub one-bus-raised : OneResult bus-raised.Post
+one-bus-raised κ given first second e d p q = determined p q
+
+pub one-bus-levelled : OneResult bus-levelled.Post
+one-bus-levelled κ given first second e d p q = determined p q
+
+pub one-bus-vectored : OneResult bus-vectored.Post
+one-bus-vectored κ given first second e d p q = determined p q
+
+pub one-bus-numbered : OneResult bus-numbered.Post
+one-bus-numbered κ given first second e d p q = determined p q
+
+pub one-bus-look-up : OneResult bus-look-up.Post
+one-bus-look-up κ given first second e d p q = determined p q
+
+-- ---- benchlog
+pub one-benchlog-read-argument : OneResult benchlog-read-argument.Post
+one-benchlog-read-argument κ given first second e d p q = determined p q
+
+pub one-benchlog-read-entry : OneResult benchlog-read-entry.Post
+one-benchlog-read-entry κ given first second e d p q = determined p q
+
+pub one-benchlog-fault-number : OneResult benchlog-fault-number.Post
+one-benchlog-fault-number κ given first second e d p q = determined p q
+
+pub one-benchlog-numbers-of : OneResult benchlog-numbers-of.Post
+one-benchlog-numbers-of κ given first second e d p q = determined p q
+
+pub one-benchlog-read-number : OneResult benchlog-read-number.Post
+one-benchlog-read-number κ given first second e d p q = determined p q
+
+-- ---- layout
+pub one-layout-numbered : OneResult layout-numbered.Post
+one-layout-numbered κ given first second e d p q = determined p q
+
+pub one-layout-event-length : OneResult layout-event-length.Post
+one-layout-event-length κ given first second e d p q = determined p q
+
+pub one-layout-events-in : OneResult layout-events-in.Post
+one-layout-events-in κ given first second e d p q = determined p q
+
+pub one-layout-read-event : OneResult layout-read-event.Post
+one-layout-read-event κ given first second e d p q = determined p q
+
+pub one-layout-write-event : OneOutcome layout-write-event.Post (λ κ e. now (e .1 .1 .0))
+one-layout-write-event κ given first second e d p q = (determined (p .0) (q .0), determined (p .1) (q .1))
+
+-- ---- scaler
+pub one-scaler-power-on : OneResult scaler-power-on.Post
+one-scaler-power-on κ given first second e d p q = determined p q
+
+pub one-scaler-is-inhibited : OneResult scaler-is-inhibited.Post
+one-scaler-is-inhibited κ given first second e d p q = determined p q
+
+pub one-scaler-obey : OneResult scaler-obey.Post
+one-scaler-obey κ given first second e d p q = determined p q
+
+-- ---- v560
+pub one-v560-access : OneResult v560-access.Post
+one-v560-access κ given first second e d p q = determined p q
+
+pub one-v560-pulses : OneResult v560-pulses.Post
+one-v560-pulses κ given first second e d p q = determined p q
+
+pub one-v560-test : OneResult v560-test.Post
+one-v560-test κ given first second e d p q = determined p q
+
+pub one-v560-clear-line : OneResult v560-clear-line.Post
+one-v560-clear-line κ given first second e d p q = determined p q
+
+pub one-v560-veto-line : OneResult v560-veto-line.Post
+one-v560-veto-line κ given first second e d p q = determined p q
+
+pub one-v560-man-clr : OneResult v560-man-clr.Post
+one-v560-man-clr κ given first second e d p q = determined p q
+
+pub one-v560-step : OneResult v560-step.Post
+one-v560-step κ given first second e d p q = determined p q
+
+pub one-v560-start : OneResult v560-start.Post
+one-v560-start κ given first second e d p q = determined p q
+
+-- ---- v260
+pub one-v260-access : OneResult v260-access.Post
+one-v260-access κ given first second e d p q = determined p q
+
+pub one-v260-pulses : OneResult v260-pulses.Post
+one-v260-pulses κ given first second e d p q = determined p q
+
+pub one-v260-test : OneResult v260-test.Post
+one-v260-test κ given first second e d p q = determined p q
+
+pub one-v260-clear-line : OneResult v260-clear-line.Post
+one-v260-clear-line κ given first second e d p q = determined p q
+
+pub one-v260-veto-line : OneResult v260-veto-line.Post
+one-v260-veto-line κ given first second e d p q = determined p q
+
+pub one-v260-man-clr : OneResult v260-man-clr.Post
+one-v260-man-clr κ given first second e d p q = determined p q
+
+pub one-v260-step : OneResult v260-step.Post
+one-v260-step κ given first second e d p q = determined p q
+
+pub one-v260-start : OneResult v260-start.Post
+one-v260-start κ given first second e d p q = determined p q
+
+-- ---- v830
+pub one-v830-pulses : OneResult v830-pulses.Post
+one-v830-pulses κ given first second e d p q = determined p q
+
+pub one-v830-veto-line : OneResult v830-veto-line.Post
+one-v830-veto-line κ given first second e d p q = determined p q
+
+pub one-v830-test : OneResult v830-test.Post
+one-v830-test κ given first second e d p q = determined p q
+
+pub one-v830-clear-line : OneResult v830-clear-line.Post
+one-v830-clear-line κ given first second e d p q = determined p q
+
+pub one-v830-trigger-line : OneOutcome v830-trigger-line.Post (λ κ e. now (e .1 .0))
+one-v830-trigger-line κ given first second e d p q = (determined (p .0) (q .0), determined (p .1) (q .1))
+
+pub one-v830-access : OneOutcome v830-access.Post (λ κ e. now (e .1 .0))
+one-v830-access κ given first second e d p q = (determined (p .0) (q .0), determined (p .1) (q .1))
+
+pub one-v830-step : OneOutcome v830-step.Post (λ κ e. now (e .1 .0))
+one-v830-step κ given first second e d p q = (determined (p .0) (q .0), determined (p .1) (q .1))
+
+pub one-v830-start : OneResult v830-start.Post
+one-v830-start κ given first second e d p q = determined p q
+
+-- ---- modules
+pub one-modules-act : OneOutcome modules-act.Post (λ κ e. now (e .1 .0))
+one-modules-act κ given first second e d p q = (determined (p .0) (q .0), determined (p .1) (q .1))
+
+pub one-modules-begin : OneResult modules-begin.Post
+one-modules-begin κ given first second e d p q = determined p q
+
+pub one-modules-lent : OneResult modules-lent.Post
+one-modules-lent κ given first second e d p q = determined (p .0) (q .0)
+
+-- ---- head
+pub one-head-read-head : OneResult head-read-head.Post
+one-head-read-head κ given first second e d p q = determined p q
+
+-- ---- text
+pub one-text-fits : OneResult text-fits.Post
+one-text-fits κ given first second e d p q = determined p q
+
+pub one-text-put-text : OneOutcome text-put-text.Post (λ κ e. now (e .0))
+one-text-put-text κ given first second e d p q = (determined (p .0) (q .0), determined (p .1) (q .1))
+
+pub one-text-put-words : OneOutcome text-put-words.Post (λ κ e. now (e .0))
+one-text-put-words κ given first second e d p q = (determined (p .0) (q .0), determined (p .1) (q .1))
+
+pub one-text-put-number : OneOutcome text-put-number.Post (λ κ e. now (e .0))
+one-text-put-number κ given first second e d p q = (determined (p .0) (q .0), determined (p .1) (q .1))
+
+pub one-text-put-line : OneOutcome text-put-line.Post (λ κ e. now (e .0))
+one-text-put-line κ given first second e d p q = (determined (p .0) (q .0), determined (p .1) (q .1))
+
+pub one-text-put-fault : OneOutcome text-put-fault.Post (λ κ e. now (e .0))
+one-text-put-fault κ given first second e d p q = (determined (p .0) (q .0), determined (p .1) (q .1))
+
+-- ---- stdio
+pub one-stdio-begin : OneResult stdio-begin.Post
+one-stdio-begin κ given first second e d p q = determined p q
+
+pub one-stdio-place : OneResult stdio-place.Post
+one-stdio-place κ given first second e d p q = determined p q
+
+pub one-stdio-end : OneOutcome stdio-end.Post (λ κ e. now (e .0))
+one-stdio-end κ given first second e d p q = (determined (p .0) (q .0), determined (p .1) (q .1))
+
+pub one-stdio-flush : OneResult stdio-flush.Post
+one-stdio-flush κ given first second e d p q = determined p q
+
+pub one-stdio-make-room : OneResult stdio-make-room.Post
+one-stdio-make-room κ given first second e d p q = determined p q
