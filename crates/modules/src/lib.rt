@@ -2,6 +2,8 @@
 ghost use mathlib.Core.Path.{_≡_};
 ghost use Prim.Native.Nat.{_+_, _≤_};
 ghost use lib.ListN.{length, take, drop};
+ghost use Rattle.v260.specs.Calls as v260;
+ghost use Rattle.v560.specs.Calls as v560;
 ghost use Rattle.modules.specs.Entries.{accessFor, callOf, call830Of, after260, after560, after830, acted, memoryAfter};
 ghost use Rattle.modules.specs.Heads.{switchesOf, resting, begun260, begun560, begun830, begunOf, lentOf, atMost};
 use benchlog::Entry;
@@ -90,9 +92,35 @@ pub fn act(t: Held, memory: &mut [u32], entry: Entry) -> Held
     let v830 = t.v830;
     let i = t.interrupter;
     match which {
-        Which::V260 => after_260(t, v260::by_value::step(v260, i, call_of(entry))),
-        Which::V560 => after_560(t, v560::by_value::step(v560, i, call_of(entry))),
+        Which::V260 => after_260(t, lend_260(v260, i, call_of(entry))),
+        Which::V560 => after_560(t, lend_560(v560, i, call_of(entry))),
         Which::V830 => after_830(t, v830::step(v830, memory, call_830_of(entry))),
+    }
+}
+
+// A call of the V260, to which the interrupter is lent.
+fn lend_260(s: V260, i: Interrupter, call: Call) -> v260::Outcome
+    ensures { λ r. ⌜ r ≡ v260.stepOf s i call ⌝ }
+{
+    let mut j = i;
+    let l = v260::in_place::step(s, &mut j, call);
+    v260::Outcome {
+        answer: l.answer,
+        state: l.state,
+        interrupter: j,
+    }
+}
+
+// A call of the V560, likewise.
+fn lend_560(s: V560, i: Interrupter, call: Call) -> v560::Outcome
+    ensures { λ r. ⌜ r ≡ v560.stepOf s i call ⌝ }
+{
+    let mut j = i;
+    let l = v560::in_place::step(s, &mut j, call);
+    v560::Outcome {
+        answer: l.answer,
+        state: l.state,
+        interrupter: j,
     }
 }
 

@@ -3,6 +3,7 @@
 -- `stdio::refill`, `stdio::read_on` and `head::begin` (docs/PROMISES.md says of each what that leaves open). Assumes nothing.
 use denote.Ref.{now}
 use Rattle.count.proofs.Determined.{determined, OneResult, OneContent, OneOutcome}
+use Rattle.promises.proofs.Walked.{OneLent, both-determined}
 use Rattle.count.proofs.tick.Reads as count-tick
 use Rattle.count.proofs.bit_rose.Reads as count-bit-rose
 use Rattle.count.proofs.tick_each.Reads as count-tick-each
@@ -29,22 +30,36 @@ use Rattle.layout.proofs.write_event.Reads as layout-write-event
 use Rattle.scaler.proofs.Scales.power_on.Reads as scaler-power-on
 use Rattle.scaler.proofs.Scales.is_inhibited.Reads as scaler-is-inhibited
 use Rattle.scaler.proofs.obey.Reads as scaler-obey
-use Rattle.v560.proofs.by_value.access.Reads as v560-access
-use Rattle.v560.proofs.by_value.pulses.Reads as v560-pulses
-use Rattle.v560.proofs.by_value.test.Reads as v560-test
-use Rattle.v560.proofs.by_value.clear_line.Reads as v560-clear-line
-use Rattle.v560.proofs.by_value.veto_line.Reads as v560-veto-line
-use Rattle.v560.proofs.by_value.man_clr.Reads as v560-man-clr
-use Rattle.v560.proofs.by_value.step.Reads as v560-step
+use Rattle.v560.proofs.by_value.access.Reads as v560-by-value-access
+use Rattle.v560.proofs.by_value.pulses.Reads as v560-by-value-pulses
+use Rattle.v560.proofs.by_value.test.Reads as v560-by-value-test
+use Rattle.v560.proofs.by_value.clear_line.Reads as v560-by-value-clear-line
+use Rattle.v560.proofs.by_value.veto_line.Reads as v560-by-value-veto-line
+use Rattle.v560.proofs.by_value.man_clr.Reads as v560-by-value-man-clr
+use Rattle.v560.proofs.by_value.step.Reads as v560-by-value-step
 use Rattle.v560.proofs.start.Reads as v560-start
-use Rattle.v260.proofs.by_value.access.Reads as v260-access
-use Rattle.v260.proofs.by_value.pulses.Reads as v260-pulses
-use Rattle.v260.proofs.by_value.test.Reads as v260-test
-use Rattle.v260.proofs.by_value.clear_line.Reads as v260-clear-line
-use Rattle.v260.proofs.by_value.veto_line.Reads as v260-veto-line
-use Rattle.v260.proofs.by_value.man_clr.Reads as v260-man-clr
-use Rattle.v260.proofs.by_value.step.Reads as v260-step
+use Rattle.v560.proofs.in_place.access as v560-in-place-access
+use Rattle.v560.proofs.in_place.pulses as v560-in-place-pulses
+use Rattle.v560.proofs.in_place.test as v560-in-place-test
+use Rattle.v560.proofs.in_place.clear_line as v560-in-place-clear-line
+use Rattle.v560.proofs.in_place.veto_line as v560-in-place-veto-line
+use Rattle.v560.proofs.in_place.man_clr as v560-in-place-man-clr
+use Rattle.v560.proofs.in_place.step as v560-in-place-step
+use Rattle.v260.proofs.by_value.access.Reads as v260-by-value-access
+use Rattle.v260.proofs.by_value.pulses.Reads as v260-by-value-pulses
+use Rattle.v260.proofs.by_value.test.Reads as v260-by-value-test
+use Rattle.v260.proofs.by_value.clear_line.Reads as v260-by-value-clear-line
+use Rattle.v260.proofs.by_value.veto_line.Reads as v260-by-value-veto-line
+use Rattle.v260.proofs.by_value.man_clr.Reads as v260-by-value-man-clr
+use Rattle.v260.proofs.by_value.step.Reads as v260-by-value-step
 use Rattle.v260.proofs.start.Reads as v260-start
+use Rattle.v260.proofs.in_place.access as v260-in-place-access
+use Rattle.v260.proofs.in_place.pulses as v260-in-place-pulses
+use Rattle.v260.proofs.in_place.test as v260-in-place-test
+use Rattle.v260.proofs.in_place.clear_line as v260-in-place-clear-line
+use Rattle.v260.proofs.in_place.veto_line as v260-in-place-veto-line
+use Rattle.v260.proofs.in_place.man_clr as v260-in-place-man-clr
+use Rattle.v260.proofs.in_place.step as v260-in-place-step
 use Rattle.v830.proofs.pulses.Reads as v830-pulses
 use Rattle.v830.proofs.veto_line.Reads as v830-veto-line
 use Rattle.v830.proofs.test.Reads as v830-test
@@ -153,54 +168,96 @@ pub one-scaler-obey : OneResult scaler-obey.Post
 one-scaler-obey κ given first second e d p q = determined p q
 
 -- ---- v560
-pub one-v560-access : OneResult v560-access.Post
-one-v560-access κ given first second e d p q = determined p q
+pub one-v560-by-value-access : OneResult v560-by-value-access.Post
+one-v560-by-value-access κ given first second e d p q = determined p q
 
-pub one-v560-pulses : OneResult v560-pulses.Post
-one-v560-pulses κ given first second e d p q = determined p q
+pub one-v560-by-value-pulses : OneResult v560-by-value-pulses.Post
+one-v560-by-value-pulses κ given first second e d p q = determined p q
 
-pub one-v560-test : OneResult v560-test.Post
-one-v560-test κ given first second e d p q = determined p q
+pub one-v560-by-value-test : OneResult v560-by-value-test.Post
+one-v560-by-value-test κ given first second e d p q = determined p q
 
-pub one-v560-clear-line : OneResult v560-clear-line.Post
-one-v560-clear-line κ given first second e d p q = determined p q
+pub one-v560-by-value-clear-line : OneResult v560-by-value-clear-line.Post
+one-v560-by-value-clear-line κ given first second e d p q = determined p q
 
-pub one-v560-veto-line : OneResult v560-veto-line.Post
-one-v560-veto-line κ given first second e d p q = determined p q
+pub one-v560-by-value-veto-line : OneResult v560-by-value-veto-line.Post
+one-v560-by-value-veto-line κ given first second e d p q = determined p q
 
-pub one-v560-man-clr : OneResult v560-man-clr.Post
-one-v560-man-clr κ given first second e d p q = determined p q
+pub one-v560-by-value-man-clr : OneResult v560-by-value-man-clr.Post
+one-v560-by-value-man-clr κ given first second e d p q = determined p q
 
-pub one-v560-step : OneResult v560-step.Post
-one-v560-step κ given first second e d p q = determined p q
+pub one-v560-by-value-step : OneResult v560-by-value-step.Post
+one-v560-by-value-step κ given first second e d p q = determined p q
 
 pub one-v560-start : OneResult v560-start.Post
 one-v560-start κ given first second e d p q = determined p q
 
+pub one-v560-in-place-access : {M : Type 1} → OneLent {M = M} v560-in-place-access.ended v560-in-place-access.clauses (λ κ e. now (e .1 .0))
+one-v560-in-place-access 𝓤 H A mem run κ given g first second e d = both-determined 𝓤 _ _ _ _ _ _
+
+pub one-v560-in-place-pulses : {M : Type 1} → OneLent {M = M} v560-in-place-pulses.ended v560-in-place-pulses.clauses (λ κ e. now (e .1 .0))
+one-v560-in-place-pulses 𝓤 H A mem run κ given g first second e d = both-determined 𝓤 _ _ _ _ _ _
+
+pub one-v560-in-place-test : {M : Type 1} → OneLent {M = M} v560-in-place-test.ended v560-in-place-test.clauses (λ κ e. now (e .1 .0))
+one-v560-in-place-test 𝓤 H A mem run κ given g first second e d = both-determined 𝓤 _ _ _ _ _ _
+
+pub one-v560-in-place-clear-line : {M : Type 1} → OneLent {M = M} v560-in-place-clear-line.ended v560-in-place-clear-line.clauses (λ κ e. now (e .1 .0))
+one-v560-in-place-clear-line 𝓤 H A mem run κ given g first second e d = both-determined 𝓤 _ _ _ _ _ _
+
+pub one-v560-in-place-veto-line : {M : Type 1} → OneLent {M = M} v560-in-place-veto-line.ended v560-in-place-veto-line.clauses (λ κ e. now (e .1 .0))
+one-v560-in-place-veto-line 𝓤 H A mem run κ given g first second e d = both-determined 𝓤 _ _ _ _ _ _
+
+pub one-v560-in-place-man-clr : {M : Type 1} → OneLent {M = M} v560-in-place-man-clr.ended v560-in-place-man-clr.clauses (λ κ e. now (e .1 .0))
+one-v560-in-place-man-clr 𝓤 H A mem run κ given g first second e d = both-determined 𝓤 _ _ _ _ _ _
+
+pub one-v560-in-place-step : {M : Type 1} → OneLent {M = M} v560-in-place-step.ended v560-in-place-step.clauses (λ κ e. now (e .1 .0))
+one-v560-in-place-step 𝓤 H A mem run κ given g first second e d = both-determined 𝓤 _ _ _ _ _ _
+
 -- ---- v260
-pub one-v260-access : OneResult v260-access.Post
-one-v260-access κ given first second e d p q = determined p q
+pub one-v260-by-value-access : OneResult v260-by-value-access.Post
+one-v260-by-value-access κ given first second e d p q = determined p q
 
-pub one-v260-pulses : OneResult v260-pulses.Post
-one-v260-pulses κ given first second e d p q = determined p q
+pub one-v260-by-value-pulses : OneResult v260-by-value-pulses.Post
+one-v260-by-value-pulses κ given first second e d p q = determined p q
 
-pub one-v260-test : OneResult v260-test.Post
-one-v260-test κ given first second e d p q = determined p q
+pub one-v260-by-value-test : OneResult v260-by-value-test.Post
+one-v260-by-value-test κ given first second e d p q = determined p q
 
-pub one-v260-clear-line : OneResult v260-clear-line.Post
-one-v260-clear-line κ given first second e d p q = determined p q
+pub one-v260-by-value-clear-line : OneResult v260-by-value-clear-line.Post
+one-v260-by-value-clear-line κ given first second e d p q = determined p q
 
-pub one-v260-veto-line : OneResult v260-veto-line.Post
-one-v260-veto-line κ given first second e d p q = determined p q
+pub one-v260-by-value-veto-line : OneResult v260-by-value-veto-line.Post
+one-v260-by-value-veto-line κ given first second e d p q = determined p q
 
-pub one-v260-man-clr : OneResult v260-man-clr.Post
-one-v260-man-clr κ given first second e d p q = determined p q
+pub one-v260-by-value-man-clr : OneResult v260-by-value-man-clr.Post
+one-v260-by-value-man-clr κ given first second e d p q = determined p q
 
-pub one-v260-step : OneResult v260-step.Post
-one-v260-step κ given first second e d p q = determined p q
+pub one-v260-by-value-step : OneResult v260-by-value-step.Post
+one-v260-by-value-step κ given first second e d p q = determined p q
 
 pub one-v260-start : OneResult v260-start.Post
 one-v260-start κ given first second e d p q = determined p q
+
+pub one-v260-in-place-access : {M : Type 1} → OneLent {M = M} v260-in-place-access.ended v260-in-place-access.clauses (λ κ e. now (e .1 .0))
+one-v260-in-place-access 𝓤 H A mem run κ given g first second e d = both-determined 𝓤 _ _ _ _ _ _
+
+pub one-v260-in-place-pulses : {M : Type 1} → OneLent {M = M} v260-in-place-pulses.ended v260-in-place-pulses.clauses (λ κ e. now (e .1 .0))
+one-v260-in-place-pulses 𝓤 H A mem run κ given g first second e d = both-determined 𝓤 _ _ _ _ _ _
+
+pub one-v260-in-place-test : {M : Type 1} → OneLent {M = M} v260-in-place-test.ended v260-in-place-test.clauses (λ κ e. now (e .1 .0))
+one-v260-in-place-test 𝓤 H A mem run κ given g first second e d = both-determined 𝓤 _ _ _ _ _ _
+
+pub one-v260-in-place-clear-line : {M : Type 1} → OneLent {M = M} v260-in-place-clear-line.ended v260-in-place-clear-line.clauses (λ κ e. now (e .1 .0))
+one-v260-in-place-clear-line 𝓤 H A mem run κ given g first second e d = both-determined 𝓤 _ _ _ _ _ _
+
+pub one-v260-in-place-veto-line : {M : Type 1} → OneLent {M = M} v260-in-place-veto-line.ended v260-in-place-veto-line.clauses (λ κ e. now (e .1 .0))
+one-v260-in-place-veto-line 𝓤 H A mem run κ given g first second e d = both-determined 𝓤 _ _ _ _ _ _
+
+pub one-v260-in-place-man-clr : {M : Type 1} → OneLent {M = M} v260-in-place-man-clr.ended v260-in-place-man-clr.clauses (λ κ e. now (e .1 .0))
+one-v260-in-place-man-clr 𝓤 H A mem run κ given g first second e d = both-determined 𝓤 _ _ _ _ _ _
+
+pub one-v260-in-place-step : {M : Type 1} → OneLent {M = M} v260-in-place-step.ended v260-in-place-step.clauses (λ κ e. now (e .1 .0))
+one-v260-in-place-step 𝓤 H A mem run κ given g first second e d = both-determined 𝓤 _ _ _ _ _ _
 
 -- ---- v830
 pub one-v830-pulses : OneResult v830-pulses.Post

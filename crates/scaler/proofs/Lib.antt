@@ -4,3 +4,9 @@ pub mod Runs
 pub mod Counted
 pub mod Fair
 pub mod Refusals
+pub mod Untouched
+pub mod Kind
+pub mod Rest
+pub mod Thin
+pub mod Loan
+pub mod Lends

@@ -12,6 +12,7 @@ use Rattle.scaler.specs.Orders.{fresh}
 use Rattle.v260.specs.declared.Switches.{Switches}
 use Rattle.v260.specs.declared.V260.{V260}
 use Rattle.v260.specs.declared.Outcome.{Outcome}
+use Rattle.v260.specs.declared.Lent.{Lent}
 
 -- "Every one returns its number, value 0 .. and the old state, interrupter included"
 abbrev pub refused : Answer → V260 → Interrupter → Outcome
@@ -20,6 +21,10 @@ refused why s i = record { answer = why; state = s; interrupter = i }
 -- done, with the value read
 abbrev pub done : ℕ → V260 → Interrupter → Outcome
 done v s i = record { answer = Done v; state = s; interrupter = i }
+
+-- "The interrupter is one small record, lent to each access and changed in its place": what the call hands back beside it
+abbrev pub lentOf : Outcome → Lent
+lentOf o = record { answer = o .answer; state = o .state }
 
 -- a link of the chain of refusals: `why`, unless this holds; else what comes after it
 abbrev pub unless : Bool → Answer → V260 → Interrupter → Outcome → Outcome

@@ -14,6 +14,7 @@ use scaler::Scales;
 
 pub mod by_value;
 mod counting;
+pub mod in_place;
 mod registers;
 
 // Table 4.1 of source document 001, from the top.
@@ -56,6 +57,12 @@ pub struct Outcome {
     pub answer: Answer,
     pub state: V260,
     pub interrupter: Interrupter,
+}
+
+// What a call gives that was lent the interrupter: the answer and the module after it.
+pub struct Lent {
+    pub answer: Answer,
+    pub state: V260,
 }
 
 // A module that is switched on, with its switches and the level of its dip switches.

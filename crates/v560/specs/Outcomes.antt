@@ -9,6 +9,7 @@ use Rattle.scaler.specs.declared.Scales.{Scales}
 use Rattle.scaler.specs.Orders.{fresh}
 use Rattle.v560.specs.declared.V560.{V560}
 use Rattle.v560.specs.declared.Outcome.{Outcome}
+use Rattle.v560.specs.declared.Lent.{Lent}
 
 -- "Every one returns its number, value 0 .. and the old state, interrupter included"
 abbrev pub refused : Answer → V560 → Interrupter → Outcome
@@ -17,6 +18,10 @@ refused why s i = record { answer = why; state = s; interrupter = i }
 -- done, with the value read
 abbrev pub done : ℕ → V560 → Interrupter → Outcome
 done v s i = record { answer = Done v; state = s; interrupter = i }
+
+-- "The interrupter is one small record, lent to each access and changed in its place": what the call hands back beside it
+abbrev pub lentOf : Outcome → Lent
+lentOf o = record { answer = o .answer; state = o .state }
 
 -- a link of the chain of refusals: `why`, unless this holds; else what comes after it
 abbrev pub unless : Bool → Answer → V560 → Interrupter → Outcome → Outcome

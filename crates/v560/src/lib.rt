@@ -13,6 +13,7 @@ use scaler::Scales;
 
 pub mod by_value;
 mod counting;
+pub mod in_place;
 mod registers;
 
 // Table 4.1 of source document 000, from the top.
@@ -48,6 +49,12 @@ pub struct Outcome {
     pub answer: Answer,
     pub state: V560,
     pub interrupter: Interrupter,
+}
+
+// What a call gives that was lent the interrupter: the answer and the module after it.
+pub struct Lent {
+    pub answer: Answer,
+    pub state: V560,
 }
 
 // A module that is switched on, with the changeover switches of its sections.
