@@ -1,4 +1,4 @@
--- The types of a module that is lent the interrupter, as the walks of `Thin.antt` and `Loan.antt` see them, so that each stands once for the V260 and the V560.
+-- The types of a module that is lent the interrupter, as the walks of `Thin.antt` and `Lends.antt` see them, so that each stands once for the V260 and the V560.
 --     Kind             its state; what a call by value gives: answer, state, interrupter; what a call gives that was lent the interrupter: answer, state
 --     outcome, lent    the two as declared types. A crate's own are these, by computation
 -- Assumes nothing.
