@@ -95,6 +95,7 @@ impl Counted for BlocksTally {
 /// Compares COMMAND's `blocks` listing of every input with this program's own.
 pub fn compare_blocks(program: &Program, seed: u64, cases: usize) -> Verdict {
     let part = |name, inputs, complete| Part {
+        program,
         name,
         inputs,
         complete,
@@ -104,5 +105,5 @@ pub fn compare_blocks(program: &Program, seed: u64, cases: usize) -> Verdict {
         part("long", long_blocks(seed), false),
         part("random", make_blocks(seed, cases), true),
     ];
-    compare_parts::<BlocksTally>(program, seed, &own_blocks, &parts)
+    compare_parts::<BlocksTally>(seed, &own_blocks, &parts)
 }

@@ -72,6 +72,7 @@ impl Counted for MakeblockTally {
 /// Compares COMMAND's `makeblock` listing of every input with this program's own.
 pub fn compare_makeblock(program: &Program, seed: u64, cases: usize) -> Verdict {
     let part = |name, inputs| Part {
+        program,
         name,
         inputs,
         complete: true,
@@ -80,5 +81,5 @@ pub fn compare_makeblock(program: &Program, seed: u64, cases: usize) -> Verdict 
         part("fixed", fixed_requests()),
         part("random", make_requests(seed, cases)),
     ];
-    compare_parts::<MakeblockTally>(program, seed, &own_makeblock, &parts)
+    compare_parts::<MakeblockTally>(seed, &own_makeblock, &parts)
 }

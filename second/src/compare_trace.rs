@@ -21,7 +21,7 @@ use crate::v830_tally::V830Tally;
 pub const DEFAULT_RUNS: usize = 1_200;
 
 /// The faults of heads and of logs.
-const FAULTS: [u32; 5] = [30, 31, 32, 33, 34];
+pub const FAULTS: [u32; 5] = [30, 31, 32, 33, 34];
 
 /// What the inputs gave.
 pub struct TraceTally {
@@ -98,7 +98,14 @@ impl Counted for TraceTally {
 /// Compares COMMAND's `trace` listing of every input with this program's own, and enters those of a
 /// V830 in the ledger's books.
 pub fn compare_trace(program: &Program, seed: u64, cases: usize) -> Verdict {
+    let books = Books::default();
+    let entered = |input: &[u8], most: usize| {
+        let listing = program(input, most)?;
+        books.enter(input, &listing);
+        Ok(listing)
+    };
     let part = |name, inputs, complete| Part {
+        program: &entered,
         name,
         inputs,
         complete,
@@ -108,12 +115,7 @@ pub fn compare_trace(program: &Program, seed: u64, cases: usize) -> Verdict {
         part("long", long_traces(seed), false),
         part("random", make_traces(seed, cases), true),
     ];
-    let books = Books::default();
-    let entered = |input: &[u8], most: usize| {
-        let listing = program(input, most)?;
-        books.enter(input, &listing);
-        Ok(listing)
-    };
-    let verdict = compare_parts::<TraceTally>(&entered, seed, &own_trace, &parts);
+    let verdict = compare_parts::<TraceTally>(seed, &own_trace, &parts);
+    drop(parts);
     books.judge(verdict)
 }

@@ -1,5 +1,6 @@
 //! Traces of logs longer than 64 KiB, whose entries lie across the multiples of 65,536 bytes.
 
+use crate::fixed_v830_traces::v830;
 use crate::make_traces::{make_calls, HEAD_MAKERS};
 use crate::module::Call;
 use crate::rng::Rng;
@@ -9,10 +10,10 @@ use crate::trace_head::{Head, HeadSwitches};
 use crate::v830_scripts::{set_up, MEMORY, NUMBER, SOFTWARE_TRIGGER, TRIGGERS};
 
 /// What a program may well read at a time.
-const EDGE: usize = 65_536;
+pub const EDGE: usize = 65_536;
 
 /// The longest entry there is, of ten bytes, and what it asks of any module.
-const LONGEST: Call = Call::Write(65_535, 32, u32::MAX);
+pub const LONGEST: Call = Call::Write(65_535, 32, u32::MAX);
 
 /// All long inputs, from the seed.
 pub fn long_traces(seed: u64) -> Vec<Input> {
@@ -32,24 +33,22 @@ pub fn long_traces(seed: u64) -> Vec<Input> {
         let bytes = joined_runs(&mut rng, module, 2 * EDGE + 1_000);
         inputs.push(Input::new(format!("{}, over two edges", module), bytes));
     }
-    inputs.push(Input::new("V830, 66,000 triggers", many_triggers()));
+    let bytes = input_of(&v830(13, 7, 1), &many_triggers(), &[]);
+    inputs.push(Input::new("V830, 66,000 triggers", bytes));
     for (name, enable, control) in [("33 words", u32::MAX, 0xA1), ("one word", 1 << 17, 0x01)] {
         let name = format!("V830, the largest memory full of events of {}", name);
-        inputs.push(Input::new(name, largest_memory(enable, control)));
+        let calls = full_memory(32_768, enable, control);
+        inputs.push(Input::new(name, input_of(&v830(3, 32_768, 1), &calls, &[])));
     }
     inputs
 }
 
-/// The largest memory filled with events until one is refused, read a little, and filled again over
-/// its end.
-fn largest_memory(enable: u32, control: u32) -> Vec<u8> {
-    let head = Head {
-        switches: HeadSwitches::V830([3, 32_768]),
-        counts: vec![1; 32],
-    };
+/// A memory of so many words filled with events until one is refused, read a little, and filled again
+/// over its end.
+pub fn full_memory(words: u32, enable: u32, control: u32) -> Vec<Call> {
     let mut calls = set_up(enable, control);
     let length = enable.count_ones() + u32::from(control & 0x20 != 0);
-    for turn in 0..=32_768 / length {
+    for turn in 0..=words / length {
         if turn % 8 == 0 {
             calls.push(Call::Pulses(17, turn % 300));
         }
@@ -59,16 +58,12 @@ fn largest_memory(enable: u32, control: u32) -> Vec<u8> {
     calls.extend((0..2 * length + 9).map(|_| MEMORY));
     calls.extend([NUMBER, Call::Test, SOFTWARE_TRIGGER, Call::Test]);
     calls.extend([SOFTWARE_TRIGGER, SOFTWARE_TRIGGER, NUMBER, MEMORY]);
-    input_of(&head, &calls, &[])
+    calls
 }
 
 /// More accepted triggers than 16 bits count, by line and by register in turn, each an event of one
 /// word, its header. All is read before the memory is full, and all are one stretch of the ledger.
-fn many_triggers() -> Vec<u8> {
-    let head = Head {
-        switches: HeadSwitches::V830([13, 7]),
-        counts: vec![1; 32],
-    };
+pub fn many_triggers() -> Vec<Call> {
     let mut calls = set_up(0, 0xA1);
     for turn in 0..66_000 {
         calls.push([Call::Trigger, SOFTWARE_TRIGGER][turn % 2]);
@@ -77,7 +72,7 @@ fn many_triggers() -> Vec<u8> {
         }
     }
     calls.extend([Call::Trigger, SOFTWARE_TRIGGER, TRIGGERS, NUMBER, MEMORY]);
-    input_of(&head, &calls, &[])
+    calls
 }
 
 /// A head of this module whose start is accepted, with counts that pulses soon bring far.
@@ -106,16 +101,21 @@ fn shifted(module: &str, shift: usize) -> Vec<u8> {
     bytes
 }
 
-/// The calls of many random runs, one behind the other, to so many bytes and a few more.
+/// The head of a module and the calls of many random runs, to so many bytes and a few more.
 fn joined_runs(rng: &mut Rng, module: &str, length: usize) -> Vec<u8> {
     let head = plain_head(module);
     let mut bytes = head.bytes();
+    add_runs(rng, &head, length, &mut bytes);
+    bytes
+}
+
+/// Adds the calls of many random runs, one behind the other, up to so many bytes and a few more.
+pub fn add_runs(rng: &mut Rng, head: &Head, length: usize, bytes: &mut Vec<u8>) {
     while bytes.len() < length {
-        for call in make_calls(rng, &head, 100) {
+        for call in make_calls(rng, head, 100) {
             bytes.extend(call.bytes());
         }
     }
-    bytes
 }
 
 #[cfg(test)]

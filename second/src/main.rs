@@ -14,10 +14,13 @@ mod compare_blocks;
 mod compare_entries;
 mod compare_logs;
 mod compare_makeblock;
+mod compare_replay;
 mod compare_trace;
+mod cut_replays;
 mod failing;
 mod fixed_blocks;
 mod fixed_cases;
+mod fixed_replays;
 mod fixed_requests;
 mod fixed_traces;
 mod fixed_v830_traces;
@@ -26,12 +29,15 @@ mod ledger;
 mod log;
 mod log_listing;
 mod long_blocks;
+mod long_replays;
 mod long_traces;
 mod make_blocks;
 mod make_entries;
 mod make_events;
 mod make_logs;
+mod make_night;
 mod make_numbers;
+mod make_replays;
 mod make_requests;
 mod make_trace_calls;
 mod make_trace_heads;
@@ -43,6 +49,7 @@ mod module;
 mod own_module;
 mod printed;
 mod registers;
+mod replay_listing;
 mod rng;
 mod run;
 mod runs;
@@ -76,6 +83,8 @@ mod wrong_modules;
 #[cfg(test)]
 mod wrong_readers;
 #[cfg(test)]
+mod wrong_replays;
+#[cfg(test)]
 mod wrong_slips;
 #[cfg(test)]
 mod wrong_trace_listings;
@@ -103,6 +112,12 @@ fn main() -> ExitCode {
             Ok(listing) => (listing, 0),
             Err(error) => return complain(&format!("standard input: {}", error), 1),
         },
+        Ok(Use::Night { entries, seed }) => {
+            return match make_night::write_night(&mut io::stdout().lock(), entries, seed) {
+                Ok(()) => ExitCode::SUCCESS,
+                Err(error) => complain(&format!("standard output: {}", error), 1),
+            };
+        }
         Ok(Use::Compare {
             subject,
             seed,
@@ -136,6 +151,7 @@ fn answer(subject: Subject) -> io::Result<String> {
         Subject::Blocks => blocks_listing::own_blocks(&input),
         Subject::Makeblock => makeblock_listing::own_makeblock(&input),
         Subject::Trace => trace_listing::own_trace(&input),
+        Subject::Replay => replay_listing::own_replay(&input),
     })
 }
 
@@ -153,5 +169,9 @@ fn compare(
         Subject::Blocks => compare_blocks::compare_blocks(&program, seed, cases),
         Subject::Makeblock => compare_makeblock::compare_makeblock(&program, seed, cases),
         Subject::Trace => compare_trace::compare_trace(&program, seed, cases),
+        Subject::Replay => {
+            let in_pieces = |input: &[u8], most: usize| run::run_in_pieces(command, input, most);
+            compare_replay::compare_replay(&program, &in_pieces, seed, cases)
+        }
     }
 }

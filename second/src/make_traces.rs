@@ -167,7 +167,7 @@ const BREAKERS: [(usize, (&str, Breaker)); 9] = [
 ];
 
 /// A broken input of a module that gives no channel more pulses than are counted quickly.
-fn tame(rng: &mut Rng, make_head: HeadMaker) -> (&'static str, Vec<u8>) {
+pub fn tame(rng: &mut Rng, make_head: HeadMaker) -> (&'static str, Vec<u8>) {
     let (what, breaker) = rng.pick_by_share(&BREAKERS);
     loop {
         let head = make_head(rng);

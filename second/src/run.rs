@@ -12,6 +12,10 @@ const TIME_LIMIT: Duration = Duration::from_secs(60);
 /// How much of the complaints on standard error is kept.
 const COMPLAINT_LENGTH: usize = 2_000;
 
+/// The pieces in which an input is fed where it is fed so, over and over, and the pause before each.
+const PIECES: [usize; 6] = [1, 7, 4_095, 3, 61, 2];
+const PAUSE: Duration = Duration::from_millis(1);
+
 /// Why a run gave no listing.
 #[derive(Debug)]
 pub enum Trouble {
@@ -32,6 +36,21 @@ pub fn shown(command: &[OsString]) -> String {
 
 /// Runs the command once; of its listing at most `most` bytes and one more are read.
 pub fn run(command: &[OsString], input: &[u8], most: usize) -> Result<Vec<u8>, Trouble> {
+    run_fed(command, input, most, feed)
+}
+
+/// Runs the command likewise, its input fed in small uneven pieces with pauses.
+pub fn run_in_pieces(command: &[OsString], input: &[u8], most: usize) -> Result<Vec<u8>, Trouble> {
+    run_fed(command, input, most, feed_in_pieces)
+}
+
+/// Runs the command once, its input fed so.
+fn run_fed(
+    command: &[OsString],
+    input: &[u8],
+    most: usize,
+    feed: fn(ChildStdin, Vec<u8>),
+) -> Result<Vec<u8>, Trouble> {
     let deadline = Instant::now() + TIME_LIMIT;
     let mut child = start(command)?;
     feed(child.stdin.take().expect("piped"), input.to_vec());
@@ -80,6 +99,21 @@ fn feed(mut pipe: ChildStdin, input: Vec<u8>) {
     thread::spawn(move || {
         // A command may stop reading at a fault: a closed pipe is no trouble here.
         let _ = pipe.write_all(&input);
+    });
+}
+
+/// Writes the input from a thread in pieces, one write each.
+fn feed_in_pieces(mut pipe: ChildStdin, input: Vec<u8>) {
+    thread::spawn(move || {
+        let mut rest = &input[..];
+        for size in PIECES.iter().cycle() {
+            let (piece, behind) = rest.split_at(rest.len().min(*size));
+            thread::sleep(PAUSE);
+            if rest.is_empty() || pipe.write_all(piece).is_err() {
+                return;
+            }
+            rest = behind;
+        }
     });
 }
 
@@ -132,4 +166,23 @@ fn ended_well(status: ExitStatus, listing: &[u8]) -> bool {
     let last = lines.find(|line| !line.starts_with(b"memory"));
     let fault = last.map_or(false, |line| line.starts_with(b"fault "));
     status.success() || (status.code().is_some() && fault)
+}
+
+#[cfg(test)]
+mod tests {
+    use super::*;
+
+    #[test]
+    fn pieces_arrive_apart_and_whole() {
+        let input: Vec<u8> = (0..100_000u32).map(|place| place as u8).collect();
+        let cat = [OsString::from("cat")];
+        for fed in [run, run_in_pieces] {
+            assert_eq!(fed(&cat, &input, 200_000).expect("a copy"), input);
+        }
+        // One read takes what is there by then, which is not all.
+        let once = ["dd", "bs=200000", "count=1", "status=none"].map(OsString::from);
+        let first = run_in_pieces(&once, &input, 200_000).expect("a part");
+        assert!(first.len() < input.len(), "{} bytes", first.len());
+        assert!(input.starts_with(&first) && !first.is_empty());
+    }
 }

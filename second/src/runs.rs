@@ -89,10 +89,15 @@ pub trait Counted: Default {
     fn events(&self) -> usize;
     /// The counts in words, and whether every possible thing occurred.
     fn shown(&self) -> (String, bool);
+    /// What the last line says of all parts together behind their runs.
+    fn total(_parts: &[Self]) -> String {
+        String::new()
+    }
 }
 
-/// Some inputs of a comparison.
-pub struct Part {
+/// Some inputs of a comparison, and COMMAND as it is run on them.
+pub struct Part<'a> {
+    pub program: &'a Program<'a>,
     pub name: &'static str,
     pub inputs: Vec<Input>,
     /// Whether every possible thing must occur among them.
@@ -100,34 +105,30 @@ pub struct Part {
 }
 
 /// Compares COMMAND with this program part by part.
-pub fn compare_parts<T: Counted>(
-    program: &Program,
-    seed: u64,
-    list: &Lister,
-    parts: &[Part],
-) -> Verdict {
+pub fn compare_parts<T: Counted>(seed: u64, list: &Lister, parts: &[Part]) -> Verdict {
     let mut words = format!("seed {}\n", seed);
+    let mut counted = Vec::new();
     for part in parts {
-        match compare_part::<T>(program, list, part) {
-            Ok(agreed) => words += &agreed,
+        match compare_part::<T>(list, part) {
+            Ok((agreed, counts)) => {
+                words += &agreed;
+                counted.push(counts);
+            }
             Err(failure) => return Verdict::new(words, Err(failure)),
         }
     }
     let runs: usize = parts.iter().map(|part| part.inputs.len()).sum();
-    Verdict::new(words, Ok(format!("all agree: {} runs\n", runs)))
+    let total = T::total(&counted);
+    Verdict::new(words, Ok(format!("all agree: {} runs{}\n", runs, total)))
 }
 
-/// Compares one part; the words of the first failure, or those of agreement.
-fn compare_part<T: Counted>(
-    program: &Program,
-    list: &Lister,
-    part: &Part,
-) -> Result<String, String> {
-    if let Some((input, finding)) = first_failing_input(program, &part.inputs, list) {
+/// Compares one part; the words of the first failure, or those of agreement and the counts.
+fn compare_part<T: Counted>(list: &Lister, part: &Part) -> Result<(String, T), String> {
+    if let Some((input, finding)) = first_failing_input(part.program, &part.inputs, list) {
         let words = finding.shown(&input.shown());
         return Err(match finding {
             Finding::Fails(_) => words,
-            Finding::Differs(_) => words + &shown_shrunk::<T>(program, list, input),
+            Finding::Differs(_) => words + &shown_shrunk::<T>(part.program, list, input),
         });
     }
     let mut counts = T::default();
@@ -143,8 +144,8 @@ fn compare_part<T: Counted>(
     );
     let (rows, complete) = counts.shown();
     match (part.complete, complete) {
-        (false, _) => Ok(agreed),
-        (true, true) => Ok(agreed + &rows),
+        (false, _) => Ok((agreed, counts)),
+        (true, true) => Ok((agreed + &rows, counts)),
         (true, false) => Err(format!(
             "{}{}too few {} inputs: not everything possible occurred\n",
             agreed, rows, part.name

@@ -1,6 +1,7 @@
 //! Makes a failing input of `trace` smaller: fewer entries, plainer heads, fewer pulses.
 
 use crate::module::Call;
+use crate::replay_listing::replay_head;
 use crate::shrink::{smaller_inputs, stretches};
 use crate::trace_head::{read_head, Head, HeadSwitches};
 use crate::trace_listing::entries_from;
@@ -35,6 +36,16 @@ pub fn smaller_traces(input: &[u8]) -> Vec<Vec<u8>> {
         }
     }
     all
+}
+
+/// The logs of `replay` one step below a log: the traces below it that begin as it does.
+pub fn smaller_replays(log: &[u8]) -> Vec<Vec<u8>> {
+    let head = replay_head().bytes();
+    let traces = smaller_traces(&[&head, log].concat());
+    let logs = traces
+        .iter()
+        .filter_map(|input| input.strip_prefix(&head[..]));
+    logs.map(<[u8]>::to_vec).collect()
 }
 
 /// The input of a head, calls and the bytes behind them.
@@ -136,5 +147,19 @@ mod tests {
             shrink_input(&fails, &failing, 300, smaller_traces),
             input_of(&smallest, &expected, &[])
         );
+    }
+
+    #[test]
+    fn a_long_failing_log_of_replay_is_made_small() {
+        let mut log = Call::Pulses(3, 70).bytes().repeat(100);
+        log.extend([7, 2, 8]);
+        let fails = |log: &[u8]| {
+            let (entries, _) = entries_from(log, 0);
+            let calls: Vec<Call> = entries.iter().map(Call::of).collect();
+            let button = calls.iter().position(|call| *call == Call::ManClr);
+            button.map_or(false, |at| at > 0)
+        };
+        let smallest = shrink_input(&fails, &log, 300, smaller_replays);
+        assert_eq!(smallest, [0, 3, 1, 7]);
     }
 }

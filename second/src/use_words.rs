@@ -3,6 +3,7 @@
 use crate::compare_blocks::DEFAULT_BLOCKS;
 use crate::compare_logs::DEFAULT_CASES;
 use crate::compare_makeblock::DEFAULT_REQUESTS;
+use crate::compare_replay::DEFAULT_LOGS;
 use crate::compare_trace::DEFAULT_RUNS;
 use std::ffi::OsString;
 
@@ -28,6 +29,11 @@ compares the proved programs' listings (docs/FORMATS.md) with its own.
       N random whole runs of each module are made (1200 unless said otherwise),
       of the V830 half as many again, besides broken heads and logs, the fixed
       and the long ones. A ledger checks what is printed of every V830 run.
+  second compare replay [--seed N] [--cases N] -- COMMAND [ARGS..]
+      Bench logs of a V830 in the format of replay, run likewise. N random
+      whole logs are made (1200 unless said otherwise), besides broken ones,
+      the fixed ones, logs cut at each of their last bytes, logs fed in small
+      pieces, and logs and listings longer than 65,536 bytes.
   second answer logs
       Reads cases on standard input, prints the listing of logcases.
   second answer entries
@@ -38,6 +44,15 @@ compares the proved programs' listings (docs/FORMATS.md) with its own.
       Reads an event to write on standard input, prints the listing of makeblock.
   second answer trace
       Reads a head and a log on standard input, prints the listing of trace.
+  second answer replay, or second replay
+      Reads a log on standard input, prints the listing of replay.
+  second night ENTRIES SEED
+      Prints a bench log of so many mixed entries, for measuring how fast a
+      replay is: Channel Enable of four channels, Control A1 (random trigger,
+      header, AUTO RESET), then pulses (40 %), memory reads (37 %), triggers
+      (8 %), other reads and writes, VETO for a short while, TEST, CLEAR,
+      MAN CLR and refused accesses. It has no fault, and the same ENTRIES and
+      SEED give the same bytes.
   second --help
       Prints this.
 
@@ -56,6 +71,7 @@ pub enum Subject {
     Blocks,
     Makeblock,
     Trace,
+    Replay,
 }
 
 impl Subject {
@@ -67,6 +83,7 @@ impl Subject {
             Subject::Blocks => Some(DEFAULT_BLOCKS),
             Subject::Makeblock => Some(DEFAULT_REQUESTS),
             Subject::Trace => Some(DEFAULT_RUNS),
+            Subject::Replay => Some(DEFAULT_LOGS),
         }
     }
 }
@@ -76,6 +93,10 @@ impl Subject {
 pub enum Use {
     Help,
     Answer(Subject),
+    Night {
+        entries: usize,
+        seed: u64,
+    },
     Compare {
         subject: Subject,
         seed: u64,
@@ -92,13 +113,30 @@ pub fn parse(words: &[OsString]) -> Result<Use, String> {
         Some("--help") | Some("-h") | Some("help") => Ok(Use::Help),
         Some("answer") => {
             let subject = parse_subject(word(1).as_deref())?;
-            match word(2) {
-                None => Ok(Use::Answer(subject)),
-                Some(extra) => Err(format!("'{}' is one word too many", extra)),
-            }
+            ended(&words[2..], Use::Answer(subject))
+        }
+        Some("replay") => ended(&words[1..], Use::Answer(Subject::Replay)),
+        Some("night") => {
+            let entries = parse_number("ENTRIES", words.get(1))?;
+            let seed = parse_number("SEED", words.get(2))?;
+            ended(&words[3..], Use::Night { entries, seed })
         }
         Some("compare") => parse_compare(parse_subject(word(1).as_deref())?, &words[2..]),
-        Some(other) => Err(format!("'{}' is neither compare nor answer", other)),
+        Some(other) => Err(format!(
+            "'{}' is none of compare, answer, replay and night",
+            other
+        )),
+    }
+}
+
+/// What is asked for, if no words are left.
+fn ended(rest: &[OsString], asked: Use) -> Result<Use, String> {
+    match rest.first() {
+        None => Ok(asked),
+        Some(extra) => Err(format!(
+            "'{}' is one word too many",
+            extra.to_string_lossy()
+        )),
     }
 }
 
@@ -110,11 +148,12 @@ fn parse_subject(word: Option<&str>) -> Result<Subject, String> {
         Some("blocks") => Ok(Subject::Blocks),
         Some("makeblock") => Ok(Subject::Makeblock),
         Some("trace") => Ok(Subject::Trace),
+        Some("replay") => Ok(Subject::Replay),
         Some(other) => Err(format!(
-            "'{}' is none of logs, entries, blocks, makeblock and trace",
+            "'{}' is none of logs, entries, blocks, makeblock, trace and replay",
             other
         )),
-        None => Err("logs, entries, blocks, makeblock or trace must be named".to_string()),
+        None => Err("logs, entries, blocks, makeblock, trace or replay must be named".to_string()),
     }
 }
 
@@ -147,7 +186,7 @@ fn parse_compare(subject: Subject, words: &[OsString]) -> Result<Use, String> {
     Err("-- and a COMMAND are missing".to_string())
 }
 
-/// Reads the decimal number behind an option.
+/// Reads the decimal number behind an option, or that a place is for.
 fn parse_number<T: std::str::FromStr>(option: &str, word: Option<&OsString>) -> Result<T, String> {
     let word = word.map(|word| word.to_string_lossy());
     word.as_deref()

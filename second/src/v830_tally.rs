@@ -12,6 +12,18 @@ use crate::v830::{Record, AUTO_RESET, HEADER, SHORT, TABLE_830, V830};
 /// start. 11 cannot be: a log's channel is at most 31.
 const ANSWERS: [u32; 11] = [0, 1, 2, 3, 4, 5, 6, 7, 8, 9, 12];
 
+/// What a replay cannot give. Its module is always started with GEO 0 and the same words, so that no
+/// start is refused, no later call is lent other words (10) and no record is malformed (12): no call
+/// makes one so. A log's channel is at most 31, and so 11 cannot be either. No event is longer than an
+/// empty memory of 16,384 words, and no count comes near 2^32 by pulse entries that are counted quickly.
+const NEVER_ANSWERED: [u32; 2] = [10, 12];
+const NEVER_IN_REPLAY: [&str; 4] = [
+    "line 9, nothing stored",
+    "register 9, nothing stored",
+    "past 2^32",
+    "TEST past 2^32",
+];
+
 /// What became of triggers, by the line and then by the register.
 const TRIGGERS: [&str; 12] = [
     "line accepted",
@@ -118,14 +130,36 @@ pub struct V830Tally {
 }
 
 impl Default for V830Tally {
-    /// Nothing seen yet.
+    /// Nothing seen yet of modules that are started anyhow.
     fn default() -> V830Tally {
+        V830Tally::without(&[], &[])
+    }
+}
+
+impl V830Tally {
+    /// Nothing seen yet of the module of a replay.
+    pub fn of_replay() -> V830Tally {
+        V830Tally::without(&NEVER_ANSWERED, &NEVER_IN_REPLAY)
+    }
+
+    /// Nothing seen yet, these answers and these things not being possible.
+    fn without(numbers: &[u32], things: &[&str]) -> V830Tally {
         let [own, counters, window] = TABLE_830;
         let ends = [&window[..2], &window[1_022..]];
+        let answered = |all: &[u32]| -> Vec<u32> {
+            let mut all = all.to_vec();
+            all.retain(|answer| !numbers.contains(answer));
+            all
+        };
+        let done = |all: &[&'static str]| -> Vec<&'static str> {
+            let mut all = all.to_vec();
+            all.retain(|thing| !things.contains(thing));
+            all
+        };
         V830Tally {
-            answers: Row::new("V830 answers", ANSWERS),
-            starts: Row::new("V830 starts", [0, 10, 12]),
-            triggers: Row::new("V830 triggers", TRIGGERS),
+            answers: Row::new("V830 answers", answered(&ANSWERS)),
+            starts: Row::new("V830 starts", answered(&[0, 10, 12])),
+            triggers: Row::new("V830 triggers", done(&TRIGGERS)),
             formats: Row::new("V830 formats", FORMATS),
             events: Row::new("V830 events", EVENTS),
             reads: Row::new("V830 memory reads", READS),
@@ -133,7 +167,7 @@ impl Default for V830Tally {
             writes: Row::new("V830 writes", WRITES),
             modes: Row::new("V830 modes", [0, 1, 2]),
             bits: Row::new("V830 Control bits", 0..=7),
-            pulses: Row::new("V830 pulses", PULSES),
+            pulses: Row::new("V830 pulses", done(&PULSES)),
             accesses: Row::new(
                 "V830 accesses",
                 all_accesses(&[own, counters, ends[0], ends[1]]),
@@ -142,9 +176,7 @@ impl Default for V830Tally {
             channels: Row::new("V830 pulsed 0..31", 0..=31),
         }
     }
-}
 
-impl V830Tally {
     /// Counts a start and the calls behind it.
     pub fn add_run(&mut self, head: &Head, calls: impl Iterator<Item = Call>) {
         let (given, module) = own_start(head);

@@ -46,6 +46,7 @@ fn it_agrees_with_itself() {
         ("blocks", "random inputs agree: 2000 runs"),
         ("makeblock", "random inputs agree: 1200 runs"),
         ("trace", "random inputs agree: 5250 runs"),
+        ("replay", "random inputs agree: 1350 runs"),
     ] {
         let (code, words) = compare(&[subject, "--", SECOND, "answer", subject]);
         assert_eq!(code, Some(0), "{}", words);
@@ -80,6 +81,11 @@ fn it_answers() {
     );
     let given = String::from_utf8(output.stdout).expect("text");
     assert!(given.ends_with(&listing), "{}", given);
+    for words in [&["answer", "replay"][..], &["replay"]] {
+        let output = second(words, &[0, 0, 4, 2, 4]);
+        let listing = "entry answer value\n1 0 0\n2 0 0\n3 7 0\n";
+        assert_eq!(String::from_utf8(output.stdout), Ok(listing.to_string()));
+    }
     let traced = [&[0xBE, 6, 1, 2][..], &[0; 32], &[4, 8]].concat();
     let output = second(&["answer", "trace"], &traced);
     let zeros = " 0".repeat(32);
@@ -89,6 +95,17 @@ fn it_answers() {
     );
     let given = String::from_utf8(output.stdout).expect("text");
     assert!(given.ends_with(&listing), "{}", given);
+}
+
+#[test]
+fn a_night_is_replayed() {
+    let night = second(&["night", "3000", "5"], b"");
+    assert_eq!(night.status.code(), Some(0));
+    let listing = second(&["replay"], &night.stdout).stdout;
+    let listing = String::from_utf8(listing).expect("text");
+    assert_eq!(listing.lines().count(), 3_001);
+    assert!(!listing.contains("fault"));
+    assert_ne!(second(&["night", "3000", "6"], b"").stdout, night.stdout);
 }
 
 #[test]
@@ -116,7 +133,7 @@ fn an_event_listing_that_fails_is_said_to_fail() {
         (&["cat"], "MISMATCH in "),
         (&[SECOND, "--help"], "MISMATCH in "),
     ] {
-        for subject in ["blocks", "makeblock", "trace"] {
+        for subject in ["blocks", "makeblock", "trace", "replay"] {
             let (code, words) = compare(&[&[subject, "--"], command].concat());
             assert_eq!(code, Some(1), "{}", words);
             assert!(words.contains(told), "{}", words);
@@ -132,6 +149,7 @@ fn a_listing_cut_short_is_a_mismatch() {
         ("blocks", 600),
         ("makeblock", 6),
         ("trace", 600),
+        ("replay", 60),
     ] {
         let script = format!("'{}' answer {} | head -c {}", SECOND, subject, bytes);
         let (code, words) = compare(&[subject, "--", "sh", "-c", &script]);
@@ -142,7 +160,7 @@ fn a_listing_cut_short_is_a_mismatch() {
 
 #[test]
 fn bad_use_is_told() {
-    let bad: [&[&str]; 13] = [
+    let bad: [&[&str]; 18] = [
         &[],
         &["compare"],
         &["answer", "notes"],
@@ -156,6 +174,11 @@ fn bad_use_is_told() {
         &["compare", "makeblock", "--cases", "x", "--", "cat"],
         &["answer", "trace", "more"],
         &["compare", "trace", "--cases", "x", "--", "cat"],
+        &["replay", "more"],
+        &["compare", "replay", "--"],
+        &["night", "5"],
+        &["night", "five", "1"],
+        &["night", "5", "1", "more"],
     ];
     for words in bad {
         let output = second(words, b"");

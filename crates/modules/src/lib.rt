@@ -62,7 +62,7 @@ fn call_of(entry: Entry) -> Call
 }
 
 // The call of a V830, likewise.
-fn call_830_of(entry: Entry) -> v830::Call
+pub fn call_830_of(entry: Entry) -> v830::Call
     ensures { λ r. ⌜ r ≡ call830Of entry ⌝ }
 {
     match entry {

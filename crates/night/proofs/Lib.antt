@@ -1,0 +1,5 @@
+pub mod Going
+pub mod Continued
+pub mod Streamed
+pub mod Numbered
+pub mod Drained

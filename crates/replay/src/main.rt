@@ -1,0 +1,74 @@
+// Replays a night on a V830: the answer and the value read of each entry of a bench log.
+ghost use Prim.Native.Nat.{_≤_};
+ghost use lib.ListN.{length};
+use night::Next;
+use night::Night;
+use stdio::Listing;
+
+// A listing under way: where it stands in the buffers, and the night.
+struct Course {
+    listing: Listing,
+    night: Night,
+}
+
+// Goes on behind the part that was shown: reads on where it wants bytes, ends where nothing is next.
+fn gone_on(buf: &mut [u8], l: Listing, next: Next) -> Listing
+    requires { ⌜ (l .used ≤ l .have) × (l .have ≤ length (now buf)) ⌝ }
+    ensures { λ r. ⌜ (r .used ≤ r .have) × (r .have ≤ length (now (buf .entry))) ⌝ }
+{
+    match next {
+        Next::Lines => l,
+        Next::Bytes => stdio::read_on(buf, l),
+        Next::Nothing => Listing {
+            used: l.used,
+            have: l.have,
+            ended: l.ended,
+            base: l.base,
+            at: l.at,
+            more: false,
+        },
+    }
+}
+
+// Shows a part of the listing and goes on behind it.
+fn turn(buf: &mut [u8], out: &mut [u8], memory: &mut [u32], course: Course) -> Course
+    requires { ⌜ (course .listing .used ≤ course .listing .have) × (course .listing .have ≤ length (now buf)) ⌝ }
+    ensures { λ r. ⌜ (r .listing .used ≤ r .listing .have) × (r .listing .have ≤ length (now (buf .entry))) ⌝ }
+{
+    let mut l = course.listing;
+    let night = course.night;
+    let used = l.used;
+    let have = l.have;
+    let part = night::replay(night, memory, &buf[used..have], l.ended, out);
+    stdio::flush(out, part.at);
+    l.used = used + part.used;
+    let next = part.next;
+    let after = part.night;
+    Course {
+        listing: gone_on(buf, l, next),
+        night: after,
+    }
+}
+
+// The whole listing.
+fn run(buf: &mut [u8], out: &mut [u8], memory: &mut [u32]) {
+    let at = text::put_text(out, 0, b"entry answer value\n");
+    stdio::flush(out, at);
+    let mut course = Course {
+        listing: stdio::begin(0),
+        night: night::begin(memory),
+    };
+    let mut turns = u64::MAX;
+    while turns > 0 && course.listing.more {
+        course = turn(buf, out, memory, course);
+        turns -= 1;
+    }
+}
+
+// The two buffers, of 64 KiB each, and the 16,384 words of the event memory.
+fn main() {
+    let mut buf = [0u8; 65536];
+    let mut out = [0u8; 65536];
+    let mut memory = [0u32; 16384];
+    run(&mut buf, &mut out, &mut memory);
+}
