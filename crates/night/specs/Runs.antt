@@ -1,5 +1,5 @@
 -- The run of a log, a part of it or the whole, and its listing (document 02, M-100; docs/FORMATS.md, `replay`). Assumes nothing.
-use Prim.Native.Nat.{ℕ, zero, suc, _+_}
+use Prim.Native.Nat.{ℕ, zero, suc, _+_, _/_}
 use mathlib.Core.Bool.{Bool, true, cond, not, _&&_}
 use mathlib.Core.List.{List, [], _∷_}
 use lib.Dec.{eqb}
@@ -51,6 +51,10 @@ onReading last bytes n memory (reading.Refused fault place) rest = stoppedAt las
 unfoldable pub runOf : ℕ → Bool → List ℕ → Night → List ℕ → Run
 runOf zero last bytes n memory = endsWith [] Lines n memory
 runOf (suc most) last bytes n memory = onReading last bytes n memory (entryAt bytes 0) (λ n₁ memory₁ bytes₁. runOf most last bytes₁ n₁ memory₁)
+
+-- as many lines as surely fit a buffer: a line has at most 63 bytes, three numbers of 20 digits and what follows each
+abbrev pub runFor : List ℕ → Bool → List ℕ → Night → List ℕ → Run
+runFor out last bytes n memory = runOf (length out / 63) last bytes n memory
 
 -- the listing of a log, under its first line: an entry has a byte at least, so that there are no more lines than bytes and one for a fault;
 -- "16,384 words"

@@ -1,6 +1,6 @@
 // A night on a V830: what the entries of a bench log make of it, and their listing.
 ghost use mathlib.Core.Path.{_≡_};
-ghost use Prim.Native.Nat.{_+_, _/_, _≤_};
+ghost use Prim.Native.Nat.{_+_, _≤_};
 ghost use mathlib.Core.Bool.{not, _&&_};
 ghost use mathlib.Core.List.{[]};
 ghost use lib.Dec.{eqb};
@@ -9,7 +9,7 @@ ghost use Rattle.benchlog.specs.Faults.{faultNumber};
 ghost use lib.ListN.{length};
 ghost use Rattle.text.specs.Text.{put};
 ghost use Rattle.night.specs.Lines.{text, begun, stepped, takenOf};
-ghost use Rattle.night.specs.Runs.{runOf, partOf, partBehind, stoppedAt};
+ghost use Rattle.night.specs.Runs.{runFor, partOf, partBehind, stoppedAt};
 use benchlog::Entry;
 use benchlog::Fault;
 use benchlog::Reading;
@@ -83,7 +83,7 @@ pub fn take(night: Night, memory: &mut [u32], entry: Entry, bytes: usize) -> Tak
 
 // Replays what is at hand of a log, `last` where nothing follows it: as many lines as surely fit the buffer.
 pub fn replay(night: Night, memory: &mut [u32], log: &[u8], last: bool, out: &mut [u8]) -> Part
-    ensures { λ r. ⌜ (r ≡ partOf (runOf (length (now (out .entry)) / 63) last (now (log .entry)) night (now (memory .entry)))) × (now (memory .exit) ≡ runOf (length (now (out .entry)) / 63) last (now (log .entry)) night (now (memory .entry)) .memory) × (now (out .exit) ≡ put (now (out .entry)) 0 (text (runOf (length (now (out .entry)) / 63) last (now (log .entry)) night (now (memory .entry)) .lines))) ⌝ }
+    ensures { λ r. ⌜ (r ≡ partOf (runFor (now (out .entry)) last (now (log .entry)) night (now (memory .entry)))) × (now (memory .exit) ≡ runFor (now (out .entry)) last (now (log .entry)) night (now (memory .entry)) .memory) × (now (out .exit) ≡ put (now (out .entry)) 0 (text (runFor (now (out .entry)) last (now (log .entry)) night (now (memory .entry)) .lines))) ⌝ }
 {
     let mut now = night;
     let mut used: usize = 0;

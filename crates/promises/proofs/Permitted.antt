@@ -1,6 +1,9 @@
 -- Any two permitted results of a public function are equal, the new state and every lent word among them: of each function's contract, as the check reads it off the function's own
 -- clauses (`Post`). By `determined`, since each contract is an equation with what a definition gives for the input. Not here, because they read from the system, of which no equation can speak:
 -- `stdio::refill`, `stdio::read_on` and `head::begin` (docs/PROMISES.md says of each what that leaves open). Assumes nothing.
+use Prim.Native.Nat.{ℕ}
+use mathlib.Core.Path.{ap₂}
+use mathlib.Core.List.{List}
 use denote.Ref.{now}
 use Rattle.count.proofs.Determined.{determined, OneResult, OneContent, OneOutcome}
 use Rattle.promises.proofs.Walked.{OneLent, both-determined}
@@ -70,7 +73,11 @@ use Rattle.v830.proofs.step.Reads as v830-step
 use Rattle.v830.proofs.start.Reads as v830-start
 use Rattle.modules.proofs.act.Reads as modules-act
 use Rattle.modules.proofs.begin.Reads as modules-begin
+use Rattle.modules.proofs.call_830_of.Reads as modules-call-830-of
 use Rattle.modules.proofs.lent.Reads as modules-lent
+use Rattle.night.proofs.begin.Reads as night-begin
+use Rattle.night.proofs.take.Reads as night-take
+use Rattle.night.proofs.replay.Reads as night-replay
 use Rattle.head.proofs.read_head.Reads as head-read-head
 use Rattle.text.proofs.fits.Reads as text-fits
 use Rattle.text.proofs.put_text.Reads as text-put-text
@@ -293,6 +300,21 @@ one-modules-begin κ given first second e d p q = determined p q
 
 pub one-modules-lent : OneResult modules-lent.Post
 one-modules-lent κ given first second e d p q = determined (p .0) (q .0)
+
+pub one-modules-call-830-of : OneResult modules-call-830-of.Post
+one-modules-call-830-of κ given first second e d p q = determined p q
+
+-- ---- night
+pub one-night-begin : OneResult night-begin.Post
+one-night-begin κ given first second e d p q = determined p q
+
+pub one-night-take : OneOutcome night-take.Post (λ κ e. now (e .1 .0))
+one-night-take κ given first second e d p q = (determined (p .0) (q .0), determined (p .1) (q .1))
+
+-- two slices are lent to it
+pub one-night-replay : OneOutcome {A = λ κ. List ℕ × List ℕ} night-replay.Post (λ κ e. (now (e .1 .0), now (e .1 .1 .1 .1 .0)))
+one-night-replay κ given first second e d p q =
+    (determined (p .0) (q .0), ap₂ (λ (m o : List ℕ). (m, o)) (determined (p .1) (q .1)) (determined (p .2) (q .2)))
 
 -- ---- head
 pub one-head-read-head : OneResult head-read-head.Post

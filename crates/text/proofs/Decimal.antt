@@ -1,43 +1,93 @@
--- The digits of a number, one after the other from the end, and how many there are at most. Assumes nothing.
-use Prim.Native.Nat.{ℕ, zero, suc, _+_, _*_, _/_, _%_, _^_, _≤_, _<_}
-use mathlib.Core.Path.{_≡_, _∙_}
+-- The digits of a number, written one after the other from the end, and how many there are. Assumes nothing.
+use Prim.Native.Nat.{ℕ, zero, suc, _+_, _-_, _*_, _/_, _%_, _^_, _≤_, _<_}
+use mathlib.Core.Path.{_≡_, refl, sym, ap, _∙_}
 use mathlib.Core.Bool.{Bool, true, false, cond}
-use mathlib.Core.List.{List, [], _∷_, _++_}
+use mathlib.Core.List.{List, [], _∷_, _++_, append-assoc}
 use native.Mathlib.Omega.{arith}
-use native.Mathlib.Nat.{pow-suc}
-use borrow.Author.Tests.{lt-ltb, le-ltb}
+use native.Mathlib.Nat.{pow-suc, one-le-pow}
+use native.Mathlib.Numerals.{add-one}
+use borrow.Author.Tests.{lt-ltb, le-ltb, ltb-true}
 use lib.Dec.{ltb}
-use lib.ListN.{length, drop, set, length-append, length-set}
-use lib.Seq.{drop-cons, drop-set-lt, getD-set-same, append-snoc}
-use Rattle.text.specs.Text.{digitsOf, decimal}
+use lib.ListN.{length, take, drop, set, length-append, length-set, take-append-drop}
+use lib.Seq.{drop-cons, take-set-le, drop-set-lt, getD-set-same, append-snoc}
+use Rattle.text.specs.Text.{put, digitsOf, decimal}
 use Rattle.text.specs.Line.{line}
+use Rattle.text.proofs.Putting.{put-fits}
 
--- text from j on, after v is stored at j
-stored : (text : List ℕ) (j v : ℕ) → j < length text → drop j (set text j v) ≡ v ∷ drop (suc j) text
-stored text j v h =
-    drop-cons (set text j v) j 0 (rw length-set h)
-    ∙ rw (getD-set-same text j v 0 h, drop-set-lt (suc j) text j v (omega arith))
+-- the last k digits of n, with noughts before them where it has fewer
+unfoldable pub lastDigits : ℕ → ℕ → List ℕ
+lastDigits zero n = []
+lastDigits (suc k) n = lastDigits k (n / 10) ++ ((48 + n % 10) ∷ [])
 
-module _ (text : List ℕ) (j rest : ℕ) (h : j < length text) where
-  -- the last digit is stored, and others come before it
-  pub digits-turn : 10 ≤ rest → digitsOf j (rest / 10) ++ drop j (set text j (48 + rest % 10)) ≡ digitsOf (suc j) rest ++ drop (suc j) text
-  unfolding digitsOf
-  digits-turn t = rw (le-ltb rest 10 t, stored text j (48 + rest % 10) h, append-snoc)
+last-or-more : (n : ℕ) (ds : List ℕ) → ds ≡ lastDigits (length ds) (n / 10) → (b : Bool) → ltb n 10 ≡ b
+    → cond b ((48 + n) ∷ []) (ds ++ ((48 + n % 10) ∷ [])) ≡ lastDigits (length (cond b ((48 + n) ∷ []) (ds ++ ((48 + n % 10) ∷ [])))) n
+unfolding lastDigits
+last-or-more n ds h true e =
+    let t : n < 10 = ltb-true n 10 e in
+    let r : n ≡ n % 10 = omega arith in
+    ap (λ (d : ℕ). (48 + d) ∷ []) r
+last-or-more n ds h false e =
+    let l : length (ds ++ ((48 + n % 10) ∷ [])) ≡ suc (length ds) = length-append ds ((48 + n % 10) ∷ []) ∙ add-one (length ds) in
+    rw l (ap (λ (l : List ℕ). l ++ ((48 + n % 10) ∷ [])) h)
 
-  -- the first digit is stored
-  pub digits-first : rest < 10 → drop j (set text j (48 + rest)) ≡ digitsOf (suc j) rest ++ drop (suc j) text
-  unfolding digitsOf
-  digits-first t = rw (lt-ltb rest 10 t, stored text j (48 + rest) h)
+-- a number's digits are its last ones, as many as there are
+digits-last : (k n : ℕ) → digitsOf k n ≡ lastDigits (length (digitsOf k n)) n
+unfolding digitsOf lastDigits
+digits-last zero n = refl
+digits-last (suc k) n = last-or-more n (digitsOf k (n / 10)) (digits-last k (n / 10)) (ltb n 10) refl
 
--- two digits need two places
-pub two-places : (i rest : ℕ) → 10 ≤ rest → rest < 10 ^ i → 1 < i
-two-places zero rest t u = omega arith
-two-places (suc zero) rest t u = omega arith
-two-places (suc (suc i)) rest t u = omega arith
+decimal-last : (n : ℕ) → decimal n ≡ lastDigits (length (decimal n)) n
+unfolding decimal
+decimal-last n = digits-last 20 n
 
--- a number without its last digit needs a place less
-pub place-less : (j rest : ℕ) → rest < 10 ^ suc j → rest / 10 < 10 ^ j
-place-less j rest u = omega (arith, pow-suc 10 j)
+-- out from j on, after v is stored at j
+stored : (out : List ℕ) (j v : ℕ) → j < length out → drop j (set out j v) ≡ v ∷ drop (suc j) out
+stored out j v h =
+    drop-cons (set out j v) j 0 (rw length-set h)
+    ∙ rw (getD-set-same out j v 0 h, drop-set-lt (suc j) out j v (omega arith))
+
+-- out with the last digits of n from `at` up to i
+abbrev pub filled : List ℕ → ℕ → ℕ → ℕ → List ℕ
+filled out at i n = take at out ++ (lastDigits (i - at) n ++ drop i out)
+
+-- all of them are to come
+pub filled-start : (out : List ℕ) (at i n : ℕ) → i ≡ at + length (decimal n) → i ≤ length out → filled out at i n ≡ put out at (decimal n)
+filled-start out at i n e h =
+    let m : at + length (decimal n) - at ≡ length (decimal n) = omega arith in
+    rw (e, m, ← decimal-last n) (sym (append-assoc (take at out) (decimal n) (drop (at + length (decimal n)) out)) ∙ sym (put-fits out at (decimal n) (omega arith)))
+
+-- the last of them is stored, and the others are those of the rest
+pub filled-turn : (out : List ℕ) (at i n : ℕ) → at < i → i ≤ length out
+    → filled (set out (i - 1) (48 + n % 10)) at (i - 1) (n / 10) ≡ filled out at i n
+unfolding lastDigits
+filled-turn out at i n h l =
+    let j : ℕ = i - 1 in
+    let v : ℕ = 48 + n % 10 in
+    let e : i ≡ suc j = omega arith in
+    let d : i - at ≡ suc (j - at) = omega arith in
+    rw (take-set-le at out j v (omega arith), stored out j v (omega arith), d, append-snoc) (ap (λ (k : ℕ). take at out ++ (lastDigits (j - at) (n / 10) ++ v ∷ drop k out)) (sym e))
+
+-- none of them is left
+pub filled-whole : (out : List ℕ) (at i n : ℕ) → i ≡ at → filled out at i n ≡ out
+unfolding lastDigits
+filled-whole out at i n e = let z : at - at ≡ 0 = omega arith in rw (e, z) (take-append-drop at out)
+
+-- a number below 10 ^ (j + 1), and from 10 ^ j on unless j is 0, has j + 1 digits
+digits-count : (k j n : ℕ) → j ≤ k → 10 ^ j ≤ n + (1 - j) → n < 10 ^ suc j → length (digitsOf (suc k) n) ≡ suc j
+unfolding digitsOf
+digits-count k zero n h l u = rw (lt-ltb n 10 (omega arith))
+digits-count zero (suc j) n h l u = absurd (omega arith)
+digits-count (suc k) (suc j) n h l u =
+    let p : 10 ^ suc j ≡ 10 ^ j * 10 = pow-suc 10 j in
+    let q : 10 ^ suc (suc j) ≡ 10 ^ suc j * 10 = pow-suc 10 (suc j) in
+    let o : 1 ≤ 10 ^ j = one-le-pow j 10 (omega arith) in
+    rw (le-ltb n 10 (omega arith), length-append, digits-count k j (n / 10) (omega arith) (omega arith) (omega arith), add-one)
+
+-- a number below 10 ^ many, and at least a tenth of that unless many is 1, has as many digits
+pub figures-many : (many n : ℕ) → 1 ≤ many → many ≤ 20 → 10 ^ many ≤ 10 * n + 10 * (2 - many) → n < 10 ^ many → many ≡ length (decimal n)
+unfolding decimal
+figures-many zero n h k l u = absurd (omega arith)
+figures-many (suc j) n h k l u = sym (digits-count 19 j n (omega arith) (omega (arith, pow-suc 10 j)) u)
 
 length-either : (b : Bool) (xs ys : List ℕ) (m : ℕ) → length xs ≤ m → length ys ≤ m → length (cond b xs ys) ≤ m
 length-either true xs ys m h k = h

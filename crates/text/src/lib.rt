@@ -1,8 +1,8 @@
 // Text put into a lent buffer: bytes, decimal numbers, and the lines of a listing.
 ghost use mathlib.Core.Path.{_≡_};
-ghost use Prim.Native.Nat.{_+_, _<_, _≤_};
+ghost use Prim.Native.Nat.{_+_, _≤_};
 ghost use lib.Dec.{leb};
-ghost use lib.ListN.{length, drop};
+ghost use lib.ListN.{length};
 ghost use lib.Seq.{paste};
 ghost use Rattle.text.specs.Text.{put, after, decimal};
 
@@ -10,12 +10,6 @@ mod lines;
 
 pub use lines::put_fault;
 pub use lines::put_line;
-
-// A number's digits: the bytes of `text` from `from` on.
-struct Figures {
-    text: [u8; 20],
-    from: usize,
-}
 
 // Whether `want` bytes fit a buffer from a place on.
 pub fn fits(out: &[u8], at: usize, want: usize) -> bool
@@ -50,10 +44,12 @@ pub fn put_words(numbers: &mut [u64], at: usize, words: &[u32]) -> usize
 pub fn put_number(out: &mut [u8], at: usize, n: u64) -> usize
     ensures { λ r. ⌜ (r ≡ after (now (out .entry)) at (decimal n)) × (now (out .exit) ≡ put (now (out .entry)) at (decimal n)) ⌝ }
 {
-    let d = digits(n);
-    let text = d.text;
-    let from = d.from;
-    put_text(out, at, &text[from..])
+    let many = figures(n);
+    if !fits(out, at, many) {
+        return at;
+    }
+    write_digits(out, at, at + many, n);
+    at + many
 }
 
 // Whether `want` places of `length` are there from a place on.
@@ -100,19 +96,32 @@ fn wide(word: u32) -> u64
     word as u64
 }
 
-// The decimal digits of a number, written from the end.
-fn digits(n: u64) -> Figures
-    ensures { λ r. ⌜ (drop (r .from) (r .text) ≡ decimal n) × (r .from < 20) × (length (r .text) ≡ 20) ⌝ }
+// How many decimal digits a number has.
+fn figures(n: u64) -> usize
+    ensures { λ r. ⌜ r ≡ length (decimal n) ⌝ }
 {
-    let mut text = [0u8; 20];
-    let mut i: usize = 20;
+    let mut many: usize = 1;
+    let mut bound: u64 = 10;
+    while many < 19 && n >= bound {
+        bound *= 10;
+        many += 1;
+    }
+    if n >= 10000000000000000000 {
+        return 20;
+    }
+    many
+}
+
+// Writes the decimal digits of a number from `at` up to `end`, the last one first.
+fn write_digits(out: &mut [u8], at: usize, end: usize, n: u64)
+    requires { ⌜ (end ≡ at + length (decimal n)) × (end ≤ length (now out)) ⌝ }
+    ensures { λ _. ⌜ now (out .exit) ≡ put (now (out .entry)) at (decimal n) ⌝ }
+{
+    let mut i = end;
     let mut rest = n;
-    while rest >= 10 {
+    while i > at {
         i -= 1;
-        text[i] = b'0' + (rest % 10) as u8;
+        out[i] = b'0' + (rest % 10) as u8;
         rest /= 10;
     }
-    i -= 1;
-    text[i] = b'0' + rest as u8;
-    Figures { text, from: i }
 }

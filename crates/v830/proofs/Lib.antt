@@ -3,6 +3,7 @@ pub mod Taking
 pub mod RingLaws
 pub mod Modular
 pub mod Live
+pub mod Pulsed
 pub mod Fairness
 pub mod Numbering
 pub mod AccountRuns

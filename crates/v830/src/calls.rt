@@ -2,7 +2,7 @@
 ghost use mathlib.Core.Path.{_≡_};
 ghost use lib.Dec.{eqb};
 ghost use lib.ListN.{length};
-ghost use Rattle.bus.specs.Table.{lookUp};
+ghost use Rattle.bus.specs.Table.{lookUp, reach, row};
 ghost use Rattle.v830.specs.Registers.{registers, accessOf};
 ghost use Rattle.v830.specs.Calls.{pulsesOf, vetoOf, testOf, clearOf, triggerOf, manClrOf, stepOf};
 use crate::Call;
@@ -88,10 +88,28 @@ pub fn trigger_line(s: V830, memory: &mut [u32]) -> Outcome
     triggered(1, s, memory)
 }
 
-// What an access reaches in the table.
+// What an access gets of the MEB window, the table's first row.
+fn in_window(a: Access) -> Register
+    ensures { λ r. ⌜ r ≡ reach 0 (row 0x0000 0x0FFC 32 1) a ⌝ }
+{
+    if a.width != 32 {
+        return Register::Refused(Answer::WrongWidth);
+    }
+    if a.write {
+        return Register::Refused(Answer::WrongDirection);
+    }
+    Register::At(0, a.offset / 4)
+}
+
+// What an access reaches in the table, the MEB window first.
 fn looked_up(a: Access) -> Register
     ensures { λ r. ⌜ r ≡ lookUp 0 registers a ⌝ }
 {
+    if a.offset <= 0x0FFC {
+        if a.offset % 4 == 0 {
+            return in_window(a);
+        }
+    }
     bus::table::look_up(TABLE, a)
 }
 
