@@ -1,7 +1,8 @@
+-- The lines put so far and those that are left give the whole run (Going); a turn is one clause of `runOf`. Assumes nothing.
 use mathlib.Core.Path.{_≡_, refl, sym, ap, _∙_}
 use native.Mathlib.Omega.{arith}
 use denote.Ref.{now}
-use Prim.Native.Nat.{ℕ, _≤_}
+use Prim.Native.Nat.{ℕ}
 use mathlib.Core.List.{List}
 use borrow.Rule.Slice.PartAt.{part-to-end}
 use lib.ListN.{length, drop, length-drop}
@@ -11,13 +12,6 @@ use Rattle.night.specs.Runs.{runOf}
 use Rattle.night.proofs.Going.{Going, start, again, within, stops-part, stops-lent, stops-puts, ends}
 use Rattle.night.proofs.replay.Statement.{statement}
 use Rattle.night.proofs.replay.Tie as tie
-use Rattle.night.proofs.replay.Reads as reads
-use Rattle.night.proofs.replay.Lts as lts
-use Rattle.benchlog.proofs.read_entry.Reads as read-entry-reads
-use Rattle.night.proofs.here.Reads as here-reads
-use Rattle.night.proofs.stop.Reads as stop-reads
-use Rattle.night.proofs.take.Reads as take-reads
-use Rattle.text.proofs.put_line.Reads as put-line-reads
 
 abbrev Inv-loop : tie.InvT-loop
 Inv-loop memory₀ log last out₀ now₀ used₀ at₀ left₀ memory out now used at left =
@@ -26,128 +20,104 @@ Inv-loop memory₀ log last out₀ now₀ used₀ at₀ left₀ memory out now u
 abbrev μ-loop : tie.MeasureT-loop
 μ-loop memory₀ log last out₀ now₀ used₀ at₀ left₀ memory out now used at left = left
 
--- src/lib.rt:92:5
+-- what is read is the entry at the front of the rest
+rest-read : (c : tie.After-read-entry Inv-loop μ-loop) → entryAt (drop (c .before .before .before .loop .used) (now (c .before .before .before .before .before .before .before .args .log))) 0 ≡ c .read-entry .result
+rest-read c = ap (λ (b : List ℕ). entryAt b 0) (sym (part-to-end (now (c .before .before .before .before .before .before .before .args .log)) (c .before .before .before .loop .used))) ∙ sym (c .read-entry .ensures)
+
 loop-holds : tie.Need-loop-holds Inv-loop μ-loop
 loop-holds c = (refl, start _ _ _ _ _ _ (omega arith))
 
--- src/lib.rt:93:36
 sub-read-entry : tie.Need-sub-read-entry Inv-loop μ-loop
 sub-read-entry c = search needs
 
--- src/lib.rt:93:36
 part-read-entry-start : tie.Need-part-read-entry-start Inv-loop μ-loop
 part-read-entry-start c = search needs
 
--- src/lib.rt:93:36
 part-read-entry-end : tie.Need-part-read-entry-end Inv-loop μ-loop
 part-read-entry-end c = search needs
 
--- src/lib.rt:93:15
 read-entry-requires : tie.Need-read-entry-requires Inv-loop μ-loop
 read-entry-requires c κs = search needs
 
--- src/lib.rt:94:30
 enum-known-fault : tie.Need-enum-known-fault Inv-loop μ-loop
 enum-known-fault c = search needs
 
--- src/lib.rt:95:34
 sub-stop : tie.Need-sub-stop Inv-loop μ-loop
 sub-stop c = search needs
 
--- src/lib.rt:95:34
 part-stop-start : tie.Need-part-stop-start Inv-loop μ-loop
 part-stop-start c = search needs
 
--- src/lib.rt:95:34
 part-stop-end : tie.Need-part-stop-end Inv-loop μ-loop
 part-stop-end c = search needs
 
--- src/lib.rt:95:17
 stop-requires : tie.Need-stop-requires Inv-loop μ-loop
 stop-requires c κs = search needs
 
--- src/lib.rt:95:17
 same-length : tie.Need-same-length Inv-loop μ-loop
 same-length c = search needs
 
--- src/lib.rt:95:17
 same-length-2 : tie.Need-same-length-2 Inv-loop μ-loop
 same-length-2 c = search needs
 
--- src/lib.rt:95:17
 returns : tie.Need-returns Inv-loop μ-loop
 returns c =
     let i = c .before .before .before .before .before .before .before .before .before .before .before in
     let log = now (i .before .before .before .before .args .log) in
-    let r = ap (λ (b : List ℕ). entryAt b 0) (sym (part-to-end log (i .loop .used))) ∙ sym (c .before .before .before .before .before .before .before .before .read-entry .ensures) ∙ c .before .before .before .before .before .before .fault .given .1 in
+    let r = rest-read (c .before .before .before .before .before .before .before .before) ∙ c .before .before .before .before .before .before .fault .given .1 in
     let g = i .loop .inv .1 in
     let h = c .before .before .before .before .before .before .before .before .before .before .loop-test .taken in
     let s = rw (part-to-end log (i .loop .used)) at (c .before .before .stop .ensures) in
     (s .0 ∙ stops-part _ h g _ _ r, stops-lent _ h g _ _ r, s .1 ∙ stops-puts _ h g _ _ r)
 
--- src/lib.rt:97:28
 enum-known-entry : tie.Need-enum-known-entry Inv-loop μ-loop
 enum-known-entry c = search needs
 
--- src/lib.rt:98:21
 take-requires : tie.Need-take-requires Inv-loop μ-loop
 take-requires c κs = search needs
 
--- src/lib.rt:103:36
 cast-t32 : tie.Need-cast-t32 Inv-loop μ-loop
 cast-t32 c = search needs
 
--- src/lib.rt:103:57
 cast-t33 : tie.Need-cast-t33 Inv-loop μ-loop
 cast-t33 c = search needs
 
--- src/lib.rt:103:21
 slice-aggregate-put-line : tie.Need-slice-aggregate-put-line Inv-loop μ-loop
 slice-aggregate-put-line c = search needs
 
--- src/lib.rt:100:17
 put-line-requires : tie.Need-put-line-requires Inv-loop μ-loop
 put-line-requires c κs = search needs
 
--- src/lib.rt:105:17
 add-used : tie.Need-add-used Inv-loop μ-loop
 add-used c =
     let i = c .before .before .before .before .before .before .before .before .before .before .before .before .before .before .before .before .before .before in
     let log = now (i .before .before .before .before .args .log) in
-    let r = ap (λ (b : List ℕ). entryAt b 0) (sym (part-to-end log (i .loop .used))) ∙ sym (c .before .before .before .before .before .before .before .before .before .before .before .before .before .before .before .read-entry .ensures) ∙ c .before .before .before .before .before .before .before .before .before .before .before .before .before .entry .given .1 in
+    let r = rest-read (c .before .before .before .before .before .before .before .before .before .before .before .before .before .before .before) ∙ c .before .before .before .before .before .before .before .before .before .before .before .before .before .entry .given .1 in
     omega (arith, within (drop (i .loop .used) log) _ _ r, length-drop (i .loop .used) log, i .loop .inv .1 .inLog)
 
--- src/lib.rt:106:17
 sub-left : tie.Need-sub-left Inv-loop μ-loop
 sub-left c = c .before .before .before .before .before .before .before .before .before .before .before .before .before .before .before .before .before .loop-test .taken
 
--- src/lib.rt:92:5
 loop-less : tie.Need-loop-less Inv-loop μ-loop
 loop-less c = omega (arith, c .before .before .before .before .before .before .before .before .before .before .before .before .before .before .before .before .before .loop-test .taken)
 
--- src/lib.rt:92:5
 loop-again : tie.Need-loop-again Inv-loop μ-loop
 loop-again c =
     let i = c .before .before .before .before .before .before .before .before .before .before .before .before .before .before .before .before .before .before in
-    let log = now (i .before .before .before .before .args .log) in
-    let r = ap (λ (b : List ℕ). entryAt b 0) (sym (part-to-end log (i .loop .used))) ∙ sym (c .before .before .before .before .before .before .before .before .before .before .before .before .before .before .before .read-entry .ensures) ∙ c .before .before .before .before .before .before .before .before .before .before .before .before .before .entry .given .1 in
+    let r = rest-read (c .before .before .before .before .before .before .before .before .before .before .before .before .before .before .before) ∙ c .before .before .before .before .before .before .before .before .before .before .before .before .before .entry .given .1 in
     let t = c .before .before .before .before .before .before .before .before .before .before .take in
     let p = c .before .before .put-line in
     (t .kept .1 .0 ∙ i .loop .inv .0, again (i .loop .left) _ _ (t .result) _ (p .result) _ (c .before .before .before .before .before .before .before .before .before .before .before .before .before .before .before .before .before .loop-test .taken) (i .loop .inv .1) r (t .ensures .0) (t .ensures .1) (p .ensures .0) (p .ensures .1))
 
--- src/lib.rt:110:5
 here-requires : tie.Need-here-requires Inv-loop μ-loop
 here-requires c κs = search needs
 
--- src/lib.rt:85:1
 same-length-3 : tie.Need-same-length-3 Inv-loop μ-loop
 same-length-3 c = search needs
 
--- src/lib.rt:85:1
 same-length-4 : tie.Need-same-length-4 Inv-loop μ-loop
 same-length-4 c = search needs
 
--- src/lib.rt:85:1
 returns-2 : tie.Need-returns-2 Inv-loop μ-loop
 returns-2 c =
     let i = c .before .before in

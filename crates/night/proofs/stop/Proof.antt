@@ -1,4 +1,5 @@
-use mathlib.Core.Path.{_≡_, sym, _∙_}
+-- The three ways in which a run stops, by its two tests; what is put is nothing or the line of the fault. Assumes nothing.
+use mathlib.Core.Path.{sym, _∙_}
 use mathlib.Core.List.{[]}
 use native.Mathlib.Omega.{arith}
 use denote.Ref.{now}
@@ -8,22 +9,13 @@ use Rattle.night.proofs.Going.{nothing-put, fault-put}
 use borrow.Author.Needs.{needs}
 use Rattle.night.proofs.stop.Statement.{statement}
 use Rattle.night.proofs.stop.Tie as tie
-use Rattle.night.proofs.stop.Reads as reads
-use Rattle.night.proofs.stop.Lts as lts
-use Rattle.benchlog.proofs.fault_number.Reads as fault-number-reads
-use Rattle.night.proofs.here.Reads as here-reads
-use Rattle.night.proofs.wants_bytes.Reads as wants-bytes-reads
-use Rattle.text.proofs.put_fault.Reads as put-fault-reads
 
--- src/lib.rt:126:8
 wants-bytes-requires : tie.Need-wants-bytes-requires
 wants-bytes-requires c κs = search needs
 
--- src/lib.rt:127:9
 here-requires : tie.Need-here-requires
 here-requires c κs = search needs
 
--- src/lib.rt:127:9
 returns : tie.Need-returns
 returns c =
     let a = c .before .before .before .before .before .args in
@@ -31,11 +23,9 @@ returns c =
     let p = nothing-put (a .used) (a .at) (a .night) Bytes [] (now (a .out)) (omega arith) in
     rw e (c .here .ensures ∙ p .0, p .1)
 
--- src/lib.rt:130:9
 here-requires-2 : tie.Need-here-requires-2
 here-requires-2 c κs = search needs
 
--- src/lib.rt:130:9
 returns-2 : tie.Need-returns-2
 returns-2 c =
     let a = c .before .before .before .before .before .before .args in
@@ -43,23 +33,18 @@ returns-2 c =
     let p = nothing-put (a .used) (a .at) (a .night) Nothing [] (now (a .out)) (omega arith) in
     rw (e, eq-eqb _ _ (c .before .if2 .taken)) (c .here2 .ensures ∙ p .0, p .1)
 
--- src/lib.rt:132:40
 fault-number-requires : tie.Need-fault-number-requires
 fault-number-requires c κs = search needs
 
--- src/lib.rt:132:9
 put-fault-requires : tie.Need-put-fault-requires
 put-fault-requires c κs = search needs
 
--- src/lib.rt:133:5
 here-requires-3 : tie.Need-here-requires-3
 here-requires-3 c κs = search needs
 
--- src/lib.rt:114:1
 same-length : tie.Need-same-length
 same-length c = search needs
 
--- src/lib.rt:114:1
 returns-3 : tie.Need-returns-3
 returns-3 c =
     let f = c .before .before .before in

@@ -1,38 +1,26 @@
+-- The step of the module, its answer as numbers, and two sums in 64 bits. Assumes nothing.
 use borrow.Author.Needs.{needs}
 use Rattle.night.proofs.take.Statement.{statement}
 use Rattle.night.proofs.take.Tie as tie
-use Rattle.night.proofs.take.Reads as reads
-use Rattle.night.proofs.take.Lts as lts
-use Rattle.bus.proofs.numbered.Reads as numbered-reads
-use Rattle.modules.proofs.call_830_of.Reads as call-830-of-reads
-use Rattle.std.proofs.num.wrapping_add_u64.Reads as wrapping-add-u64-reads
-use Rattle.v830.proofs.step.Reads as step-reads
 
--- src/lib.rt:62:40
 call-830-of-requires : tie.Need-call-830-of-requires
 call-830-of-requires c κs = search needs
 
--- src/lib.rt:62:9
 step-requires : tie.Need-step-requires
 step-requires c κs = search needs
 
--- src/lib.rt:64:9
 numbered-requires : tie.Need-numbered-requires
 numbered-requires c κs = search needs
 
--- src/lib.rt:66:9
 wrapping-add-u64-requires : tie.Need-wrapping-add-u64-requires
 wrapping-add-u64-requires c κs = search needs
 
--- src/lib.rt:70:16
 wrapping-add-u64-requires-2 : tie.Need-wrapping-add-u64-requires-2
 wrapping-add-u64-requires-2 c κs = search needs
 
--- src/lib.rt:58:1
 same-length : tie.Need-same-length
 same-length c = search needs
 
--- src/lib.rt:58:1
 returns : tie.Need-returns
 returns c =
     let b = c .before .before .before in

@@ -1,23 +1,17 @@
+-- Two tests. Assumes nothing.
 use borrow.Author.Needs.{needs}
 use Rattle.night.proofs.wants_bytes.Statement.{statement}
 use Rattle.night.proofs.wants_bytes.Tie as tie
-use Rattle.night.proofs.wants_bytes.Reads as reads
-use Rattle.night.proofs.wants_bytes.Lts as lts
-use Rattle.benchlog.proofs.fault_number.Reads as fault-number-reads
 
--- src/lib.rt:141:9
 returns : tie.Need-returns
 returns c = search needs
 
--- src/lib.rt:143:5
 fault-number-requires : tie.Need-fault-number-requires
 fault-number-requires c κs = search needs
 
--- src/lib.rt:143:38
 fault-number-requires-2 : tie.Need-fault-number-requires-2
 fault-number-requires-2 c κs = search needs
 
--- src/lib.rt:137:1
 returns-2 : tie.Need-returns-2
 returns-2 c = rw (c .before .before .if1 .left, c .before .fault-number .ensures, c .fault-number2 .ensures)
 

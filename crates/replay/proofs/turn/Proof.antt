@@ -8,11 +8,6 @@ use Rattle.night.proofs.Going.{part-used}
 use borrow.Author.Needs.{needs}
 use Rattle.replay.proofs.turn.Statement.{statement}
 use Rattle.replay.proofs.turn.Tie as tie
-use Rattle.replay.proofs.turn.Reads as reads
-use Rattle.replay.proofs.turn.Lts as lts
-use Rattle.night.proofs.replay.Reads as replay-reads
-use Rattle.replay.proofs.gone_on.Reads as gone-on-reads
-use Rattle.stdio.proofs.flush.Reads as flush-reads
 
 -- the part uses no more than the buffer has left
 shown : (c : tie.After-replay) → c .before .before .before .before .before .before .before .before .before .before .args .course .listing .used + c .replay .result .used ≤ c .before .before .before .before .before .before .before .before .before .before .args .course .listing .have
@@ -23,47 +18,36 @@ shown c =
     let e = length-take-le (l .have - l .used) (drop (l .used) (now (a .buf))) (omega (arith, length-drop (l .used) (now (a .buf)))) in
     omega (arith, u, e)
 
--- src/main.rt:42:45
 sub-replay : tie.Need-sub-replay
 sub-replay c = search needs
 
--- src/main.rt:42:45
 part-replay-start : tie.Need-part-replay-start
 part-replay-start c = search needs
 
--- src/main.rt:42:45
 part-replay-end : tie.Need-part-replay-end
 part-replay-end c = search needs
 
--- src/main.rt:42:9
 replay-requires : tie.Need-replay-requires
 replay-requires c κs = search needs
 
--- src/main.rt:43:5
 flush-requires : tie.Need-flush-requires
 flush-requires c κs = search needs
 
--- src/main.rt:44:14
 add-l : tie.Need-add-l
 add-l c = omega (arith, shown (c .before .before .before .before .before .before .before), c .before .before .before .before .before .before .before .before .before .before .before .before .before .before .before .before .before .pre .1, c .before .before .before .before .before .before .before .before .before .before .before .before .before .before .before .before .before .good .0)
 
--- src/main.rt:48:18
 gone-on-requires : tie.Need-gone-on-requires
 gone-on-requires c κs = (shown (c .before .before .before .before .before .before .before .before .before), c .before .before .before .before .before .before .before .before .before .before .before .before .before .before .before .before .before .before .before .pre .1)
 
--- src/main.rt:34:1
 same-length : tie.Need-same-length
 same-length c = search needs
 
--- src/main.rt:34:1
 same-length-2 : tie.Need-same-length-2
 same-length-2 c = search needs
 
--- src/main.rt:34:1
 same-length-3 : tie.Need-same-length-3
 same-length-3 c = search needs
 
--- src/main.rt:34:1
 returns : tie.Need-returns
 returns c = search needs
 
