@@ -59,11 +59,11 @@ pub struct Store {
 pub struct V830 {
     pub counts: [u32; 32],
     pub enable: u32,
-    pub control: u8,
     pub triggers: u32,
-    pub veto: bool,
     pub geo: u32,
     pub store: Store,
+    pub control: u8,
+    pub veto: bool,
 }
 
 // What a call gives: the answer, and the module after it.
