@@ -1,3 +1,4 @@
+pub mod Tallying
 pub mod Going
 pub mod Continued
 pub mod Streamed

@@ -10,6 +10,12 @@ ghost use lib.ListN.{length};
 ghost use Rattle.text.specs.Text.{put};
 ghost use Rattle.night.specs.Lines.{text, begun, stepped, takenOf};
 ghost use Rattle.night.specs.Runs.{runFor, partOf, partBehind, stoppedAt};
+
+mod tally;
+
+use crate::tally::counted_to;
+use crate::tally::counted_up;
+use crate::tally::put_entry;
 use benchlog::Entry;
 use benchlog::Fault;
 use benchlog::Reading;
@@ -89,6 +95,7 @@ pub fn replay(night: Night, memory: &mut [u32], log: &[u8], last: bool, out: &mu
     let mut used: usize = 0;
     let mut at: usize = 0;
     let mut left = out.len() / 63;
+    let mut number = counted_to(night.entries);
     while left > 0 {
         match benchlog::read_entry(&log[used..], 0) {
             Reading::Refused(fault, _) => {
@@ -97,11 +104,8 @@ pub fn replay(night: Night, memory: &mut [u32], log: &[u8], last: bool, out: &mu
             Reading::Entry(entry, bytes) => {
                 let taken = take(now, memory, entry, bytes);
                 now = taken.night;
-                at = text::put_line(
-                    out,
-                    at,
-                    &[taken.entry, taken.answer as u64, taken.value as u64],
-                );
+                number = counted_up(number);
+                at = put_entry(out, at, number, taken.answer, taken.value);
                 used += bytes;
                 left -= 1;
             }

@@ -6,7 +6,7 @@ use mathlib.Core.List.{List, [], _∷_, _++_, append-assoc}
 use native.Mathlib.Omega.{arith}
 use native.Mathlib.Nat.{pow-suc, one-le-pow}
 use native.Mathlib.Numerals.{add-one}
-use borrow.Author.Tests.{lt-ltb, le-ltb, ltb-true}
+use borrow.Author.Tests.{lt-ltb, le-ltb, ltb-true, ltb-false}
 use lib.Dec.{ltb}
 use lib.ListN.{length, take, drop, set, length-append, length-set, take-append-drop}
 use lib.Seq.{drop-cons, take-set-le, drop-set-lt, getD-set-same, append-snoc}
@@ -36,9 +36,14 @@ unfolding digitsOf lastDigits
 digits-last zero n = refl
 digits-last (suc k) n = last-or-more n (digitsOf k (n / 10)) (digits-last k (n / 10)) (ltb n 10) refl
 
-decimal-last : (n : ℕ) → decimal n ≡ lastDigits (length (decimal n)) n
+pub decimal-last : (n : ℕ) → decimal n ≡ lastDigits (length (decimal n)) n
 unfolding decimal
 decimal-last n = digits-last 20 n
+
+-- a number below 10 is its one digit
+pub decimal-one : (n : ℕ) → n < 10 → decimal n ≡ (48 + n) ∷ []
+unfolding decimal digitsOf
+decimal-one n h = rw (lt-ltb n 10 h)
 
 -- out from j on, after v is stored at j
 stored : (out : List ℕ) (j v : ℕ) → j < length out → drop j (set out j v) ≡ v ∷ drop (suc j) out
@@ -88,6 +93,36 @@ pub figures-many : (many n : ℕ) → 1 ≤ many → many ≤ 20 → 10 ^ many �
 unfolding decimal
 figures-many zero n h k l u = absurd (omega arith)
 figures-many (suc j) n h k l u = sym (digits-count 19 j n (omega arith) (omega (arith, pow-suc 10 j)) u)
+
+-- the next number, where its last digit is not 0, has as many digits
+next-count : (k n m : ℕ) (b : Bool) → ltb n 10 ≡ b → ltb m 10 ≡ b → m / 10 ≡ n / 10 → length (digitsOf (suc k) m) ≡ length (digitsOf (suc k) n)
+unfolding digitsOf
+next-count k n m true e f q = rw (e, f)
+next-count k n m false e f q = rw (e, f, q) (length-append (digitsOf k (n / 10)) ((48 + m % 10) ∷ []) ∙ sym (length-append (digitsOf k (n / 10)) ((48 + n % 10) ∷ [])))
+
+pub decimal-next : (n : ℕ) → ((n + 1) % 10 ≡ 0 → ⊥) → length (decimal (n + 1)) ≡ length (decimal n)
+unfolding decimal
+decimal-next n h =
+    let q : (n + 1) / 10 ≡ n / 10 = omega (arith, h) in
+    go (ltb n 10) refl q
+  where
+    go : (b : Bool) → ltb n 10 ≡ b → (n + 1) / 10 ≡ n / 10 → length (digitsOf 20 (n + 1)) ≡ length (digitsOf 20 n)
+    go true e q = next-count 19 n (n + 1) true e (lt-ltb (n + 1) 10 (omega (arith, ltb-true n 10 e))) q
+    go false e q = next-count 19 n (n + 1) false e (le-ltb (n + 1) 10 (omega (arith, ltb-false n 10 e))) q
+
+-- a number has a digit at least, and a line two bytes a number
+pub decimal-some : (n : ℕ) → 1 ≤ length (decimal n)
+unfolding decimal digitsOf
+decimal-some n = go (ltb n 10)
+  where
+    go : (b : Bool) → 1 ≤ length (cond b ((48 + n) ∷ []) (digitsOf 19 (n / 10) ++ ((48 + n % 10) ∷ [])))
+    go true = omega arith
+    go false = rw length-append (omega arith)
+
+pub line-least : (ns : List ℕ) → 2 * length ns ≤ length (line ns)
+unfolding line
+line-least [] = omega arith
+line-least (n ∷ ns) = rw length-append (omega (arith, decimal-some n, line-least ns))
 
 length-either : (b : Bool) (xs ys : List ℕ) (m : ℕ) → length xs ≤ m → length ys ≤ m → length (cond b xs ys) ≤ m
 length-either true xs ys m h k = h

@@ -1,5 +1,5 @@
 -- Bytes put into a buffer: where they fit and where not, the buffer's length, and two puts that are one. Assumes nothing.
-use Prim.Native.Nat.{ℕ, _+_, _≤_, _<_}
+use Prim.Native.Nat.{ℕ, _+_, _-_, _≤_, _<_}
 use mathlib.Core.Path.{_≡_, refl, sym, ap, ap₂, _∙_}
 use mathlib.Core.Bool.{Bool, true, false, cond, not}
 use mathlib.Core.List.{List, [], _++_, append-assoc, append-nil}
@@ -8,7 +8,7 @@ use native.Mathlib.Omega.{arith}
 use borrow.Author.Tests.{le-leb, lt-leb, leb-true, leb-false, not-true, not-false}
 use lib.Dec.{leb}
 use lib.ListN.{length, getD, set, take, drop, length-append, length-drop, drop-of-length-le}
-use lib.Seq.{length-take-le, take-at, drop-append-add, drop-drop, paste, paste-zero, paste-suc, take-length}
+use lib.Seq.{sets, sets-eq, length-take-le, take-at, drop-append-add, drop-drop, paste, paste-zero, paste-suc, take-length}
 use Rattle.text.specs.Text.{put, after}
 
 module _ (out : List ℕ) (at : ℕ) (ws : List ℕ) where
@@ -24,6 +24,9 @@ module _ (out : List ℕ) (at : ℕ) (ws : List ℕ) where
 
     pub put-paste : put out at ws ≡ paste out at ws (length ws)
     put-paste = rw (put-fits, take-length)
+
+    pub put-sets : put out at ws ≡ sets out at ws
+    put-sets = put-fits ∙ sym (sets-eq ws out at h)
 
     pub head-length : length (take at out ++ ws) ≡ at + length ws
     head-length = length-append (take at out) ws ∙ ap (λ (n : ℕ). n + length ws) (length-take-le at out (omega arith))
@@ -94,6 +97,25 @@ put-more out at a b h =
     ∙ ap₂ (λ (x y : List ℕ). x ++ b ++ y) front back
     ∙ ap₂ (λ (x : List ℕ) (n : ℕ). x ++ drop n out) (append-assoc (take at out) a b) m
     ∙ sym (put-fits out at (a ++ b) (omega arith))
+
+-- what is put over fewer bytes leaves none of them
+pub put-again : (out : List ℕ) (at : ℕ) (a b : List ℕ) → length a ≤ length b → at + length b ≤ length out → put (put out at a) at b ≡ put out at b
+put-again out at a b h k =
+    let h₁ : at + length a ≤ length out = omega arith in
+    let p : List ℕ = take at out ++ a in
+    let rest : List ℕ = drop (at + length a) out in
+    let l : length p ≡ at + length a = head-length out at a h₁ in
+    let t : length (take at out) ≡ at = length-take-le at out (omega arith) in
+    let e : put out at a ≡ p ++ rest = put-fits out at a h₁ in
+    let m : at + length b ≡ length p + (length b - length a) = omega arith in
+    let n : at + length a + (length b - length a) ≡ at + length b = omega arith in
+    let front : take at (put out at a) ≡ take at out =
+    ap (take at) (e ∙ append-assoc (take at out) a rest) ∙ take-at (take at out) (a ++ rest) at t in
+    let back : drop (at + length b) (put out at a) ≡ drop (at + length b) out =
+    ap₂ drop m e ∙ drop-append-add p rest (length b - length a) ∙ drop-drop (length b - length a) (at + length a) out ∙ ap (λ (j : ℕ). drop j out) n in
+    put-fits (put out at a) at b (rw (length-put out at a h₁) k)
+    ∙ ap₂ (λ (x y : List ℕ). x ++ b ++ y) front back
+    ∙ sym (put-fits out at b k)
 
 -- what is put behind a front fills the rest
 pub put-end : (front rest ws : List ℕ) → length rest ≡ length ws → put (front ++ rest) (length front) ws ≡ front ++ ws

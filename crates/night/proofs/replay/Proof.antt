@@ -8,24 +8,30 @@ use borrow.Rule.Slice.PartAt.{part-to-end}
 use lib.ListN.{length, drop, length-drop}
 use Rattle.benchlog.specs.Entries.{entryAt}
 use borrow.Author.Needs.{needs}
+use Rattle.night.specs.declared.Taken.{Taken}
 use Rattle.night.specs.Runs.{runOf}
+use Rattle.night.specs.Tallies.{tallyOf}
 use Rattle.night.proofs.Going.{Going, start, again, within, stops-part, stops-lent, stops-puts, ends}
+use Rattle.night.proofs.Tallying.{tells, counted-on}
 use Rattle.night.proofs.replay.Statement.{statement}
 use Rattle.night.proofs.replay.Tie as tie
 
 abbrev Inv-loop : tie.InvT-loop
-Inv-loop memory₀ log last out₀ now₀ used₀ at₀ left₀ memory out now used at left =
-    (length memory ≡ length memory₀) × Going (runOf left₀ last log now₀ memory₀) out₀ log last left used at now memory out
+Inv-loop memory₀ log last out₀ now₀ used₀ at₀ left₀ number₀ memory out now used at left number =
+    (length memory ≡ length memory₀) × Going (runOf left₀ last log now₀ memory₀) out₀ log last left used at now memory out × (number ≡ tallyOf (now .entries))
 
 abbrev μ-loop : tie.MeasureT-loop
-μ-loop memory₀ log last out₀ now₀ used₀ at₀ left₀ memory out now used at left = left
+μ-loop memory₀ log last out₀ now₀ used₀ at₀ left₀ number₀ memory out now used at left number = left
 
 -- what is read is the entry at the front of the rest
-rest-read : (c : tie.After-read-entry Inv-loop μ-loop) → entryAt (drop (c .before .before .before .loop .used) (now (c .before .before .before .before .before .before .before .args .log))) 0 ≡ c .read-entry .result
-rest-read c = ap (λ (b : List ℕ). entryAt b 0) (sym (part-to-end (now (c .before .before .before .before .before .before .before .args .log)) (c .before .before .before .loop .used))) ∙ sym (c .read-entry .ensures)
+rest-read : (c : tie.After-read-entry Inv-loop μ-loop) → entryAt (drop (c .before .before .before .loop .used) (now (c .before .before .before .before .before .before .before .before .args .log))) 0 ≡ c .read-entry .result
+rest-read c = ap (λ (b : List ℕ). entryAt b 0) (sym (part-to-end (now (c .before .before .before .before .before .before .before .before .args .log)) (c .before .before .before .loop .used))) ∙ sym (c .read-entry .ensures)
+
+counted-to-requires : tie.Need-counted-to-requires Inv-loop μ-loop
+counted-to-requires c κs = search needs
 
 loop-holds : tie.Need-loop-holds Inv-loop μ-loop
-loop-holds c = (refl, start _ _ _ _ _ _ (omega arith))
+loop-holds c = (refl, start _ _ _ _ _ _ (omega arith), c .counted-to .ensures)
 
 sub-read-entry : tie.Need-sub-read-entry Inv-loop μ-loop
 sub-read-entry c = search needs
@@ -63,7 +69,7 @@ same-length-2 c = search needs
 returns : tie.Need-returns Inv-loop μ-loop
 returns c =
     let i = c .before .before .before .before .before .before .before .before .before .before .before in
-    let log = now (i .before .before .before .before .args .log) in
+    let log = now (i .before .before .before .before .before .args .log) in
     let r = rest-read (c .before .before .before .before .before .before .before .before) ∙ c .before .before .before .before .before .before .fault .given .1 in
     let g = i .loop .inv .1 in
     let h = c .before .before .before .before .before .before .before .before .before .before .loop-test .taken in
@@ -76,38 +82,35 @@ enum-known-entry c = search needs
 take-requires : tie.Need-take-requires Inv-loop μ-loop
 take-requires c κs = search needs
 
-cast-t32 : tie.Need-cast-t32 Inv-loop μ-loop
-cast-t32 c = search needs
+counted-up-requires : tie.Need-counted-up-requires Inv-loop μ-loop
+counted-up-requires c κs = tells _ _ (c .before .before .before .before .before .before .before .before .before .before .before .loop .inv .2)
 
-cast-t33 : tie.Need-cast-t33 Inv-loop μ-loop
-cast-t33 c = search needs
-
-slice-aggregate-put-line : tie.Need-slice-aggregate-put-line Inv-loop μ-loop
-slice-aggregate-put-line c = search needs
-
-put-line-requires : tie.Need-put-line-requires Inv-loop μ-loop
-put-line-requires c κs = search needs
+put-entry-requires : tie.Need-put-entry-requires Inv-loop μ-loop
+put-entry-requires c κs = tells _ _ (c .before .counted-up .ensures)
 
 add-used : tie.Need-add-used Inv-loop μ-loop
 add-used c =
-    let i = c .before .before .before .before .before .before .before .before .before .before .before .before .before .before .before .before .before .before in
-    let log = now (i .before .before .before .before .args .log) in
-    let r = rest-read (c .before .before .before .before .before .before .before .before .before .before .before .before .before .before .before) ∙ c .before .before .before .before .before .before .before .before .before .before .before .before .before .entry .given .1 in
+    let i = c .before .before .before .before .before .before .before .before .before .before .before .before .before .before .before .before in
+    let log = now (i .before .before .before .before .before .args .log) in
+    let r = rest-read (c .before .before .before .before .before .before .before .before .before .before .before .before .before) ∙ c .before .before .before .before .before .before .before .before .before .before .before .entry .given .1 in
     omega (arith, within (drop (i .loop .used) log) _ _ r, length-drop (i .loop .used) log, i .loop .inv .1 .inLog)
 
 sub-left : tie.Need-sub-left Inv-loop μ-loop
-sub-left c = c .before .before .before .before .before .before .before .before .before .before .before .before .before .before .before .before .before .loop-test .taken
+sub-left c = c .before .before .before .before .before .before .before .before .before .before .before .before .before .before .before .loop-test .taken
 
 loop-less : tie.Need-loop-less Inv-loop μ-loop
-loop-less c = omega (arith, c .before .before .before .before .before .before .before .before .before .before .before .before .before .before .before .before .before .loop-test .taken)
+loop-less c = omega (arith, c .before .before .before .before .before .before .before .before .before .before .before .before .before .before .before .loop-test .taken)
 
 loop-again : tie.Need-loop-again Inv-loop μ-loop
 loop-again c =
-    let i = c .before .before .before .before .before .before .before .before .before .before .before .before .before .before .before .before .before .before in
-    let r = rest-read (c .before .before .before .before .before .before .before .before .before .before .before .before .before .before .before) ∙ c .before .before .before .before .before .before .before .before .before .before .before .before .before .entry .given .1 in
-    let t = c .before .before .before .before .before .before .before .before .before .before .take in
-    let p = c .before .before .put-line in
-    (t .kept .1 .0 ∙ i .loop .inv .0, again (i .loop .left) _ _ (t .result) _ (p .result) _ (c .before .before .before .before .before .before .before .before .before .before .before .before .before .before .before .before .before .loop-test .taken) (i .loop .inv .1) r (t .ensures .0) (t .ensures .1) (p .ensures .0) (p .ensures .1))
+    let i = c .before .before .before .before .before .before .before .before .before .before .before .before .before .before .before .before in
+    let r = rest-read (c .before .before .before .before .before .before .before .before .before .before .before .before .before) ∙ c .before .before .before .before .before .before .before .before .before .before .before .entry .given .1 in
+    let t = c .before .before .before .before .before .before .before .before .take in
+    let u = c .before .before .before .before .counted-up in
+    let p = c .before .before .put-entry in
+    let n = counted-on (i .loop .number) (u .result) (i .loop .now .entries) (t .result) (i .loop .inv .2) (u .ensures) (ap (λ (k : Taken). k .night .entries) (t .ensures .0)) (ap (λ (k : Taken). k .entry) (t .ensures .0)) in
+    let q = rw (n .1) at (p .ensures) in
+    (t .kept .1 .0 ∙ i .loop .inv .0, again (i .loop .left) _ _ (t .result) _ (p .result) _ (c .before .before .before .before .before .before .before .before .before .before .before .before .before .before .before .loop-test .taken) (i .loop .inv .1) r (t .ensures .0) (t .ensures .1) (q .0) (q .1), n .0)
 
 here-requires : tie.Need-here-requires Inv-loop μ-loop
 here-requires c κs = search needs
@@ -131,6 +134,7 @@ replay-spec =
     (tie.spec
     Inv-loop
     μ-loop
+    counted-to-requires
     loop-holds
     sub-read-entry
     part-read-entry-start
@@ -146,10 +150,8 @@ replay-spec =
     returns
     enum-known-entry
     take-requires
-    cast-t32
-    cast-t33
-    slice-aggregate-put-line
-    put-line-requires
+    counted-up-requires
+    put-entry-requires
     add-used
     sub-left
     loop-less

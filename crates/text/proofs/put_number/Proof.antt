@@ -1,74 +1,52 @@
--- The digits do not fit, or are written whole. Assumes nothing.
-use mathlib.Core.Path.{sym}
-use native.Mathlib.Omega.{arith}
+-- One digit is put as it is, more by their own function. Assumes nothing.
+use mathlib.Core.List.{List}
+use denote.Ref.{now}
 use borrow.Author.Needs.{needs}
-use Rattle.text.specs.Text.{decimal}
-use Rattle.text.proofs.Putting.{nothing-put, they-fit, after-fits}
+use Rattle.text.proofs.Decimal.{decimal-one}
 use Rattle.text.proofs.put_number.Statement.{statement}
 use Rattle.text.proofs.put_number.Tie as tie
 
-figures-requires : tie.Need-figures-requires
-figures-requires c κs = search needs
+cast-t8 : tie.Need-cast-t8
+cast-t8 c = search needs
 
-fits-requires : tie.Need-fits-requires
-fits-requires c κs = search needs
+add-t9 : tie.Need-add-t9
+add-t9 c = search needs
+
+slice-aggregate-put-text : tie.Need-slice-aggregate-put-text
+slice-aggregate-put-text c = search needs
+
+put-text-requires : tie.Need-put-text-requires
+put-text-requires c κs = search needs
 
 same-length : tie.Need-same-length
 same-length c = search needs
 
 returns : tie.Need-returns
 returns c =
-    let f = c .before in
-    let k = f .before .before .figures in
-    let a = f .before .before .before .before .args in
-    nothing-put (a .out .now) (a .at) (decimal (a .n)) (f .fits2 .result) (rw (← k .ensures) (f .fits2 .ensures)) (c .if1 .taken)
+    let p = c .before .before in
+    let a = p .before .before .before .before .before .args in
+    let t = p .before .before .before .if1 .taken in
+    rw (decimal-one (a .n) t) (p .put-text .ensures)
 
-add-write-digits : tie.Need-add-write-digits
-add-write-digits c =
-    let f = c .before .before in
-    let k = f .before .before .figures in
-    let a = f .before .before .before .before .args in
-    omega (arith, k .ensures, they-fit (a .out .now) (a .at) (decimal (a .n)) (f .fits2 .result) (rw (← k .ensures) (f .fits2 .ensures)) (c .before .if1 .left))
-
-write-digits-requires : tie.Need-write-digits-requires
-write-digits-requires c κs =
-    let f = c .before .before in
-    let k = f .before .before .figures in
-    let a = f .before .before .before .before .args in (
-      rw (k .ensures),
-      omega (arith, k .ensures, they-fit (a .out .now) (a .at) (decimal (a .n)) (f .fits2 .result) (rw (← k .ensures) (f .fits2 .ensures)) (c .before .if1 .left)),
-    )
-
-add-result : tie.Need-add-result
-add-result c =
-    let e = c .before .before .before .before in
-    let f = e .before in
-    let k = f .before .before .figures in
-    let a = f .before .before .before .before .args in
-    omega (arith, k .ensures, they-fit (a .out .now) (a .at) (decimal (a .n)) (f .fits2 .result) (rw (← k .ensures) (f .fits2 .ensures)) (e .if1 .left))
+put-figures-requires : tie.Need-put-figures-requires
+put-figures-requires c κs = search needs
 
 same-length-2 : tie.Need-same-length-2
 same-length-2 c = search needs
 
 returns-2 : tie.Need-returns-2
-returns-2 c =
-    let e = c .before .before .before .before in
-    let f = e .before in
-    let k = f .before .before .figures in
-    let a = f .before .before .before .before .args in
-    let h = they-fit (a .out .now) (a .at) (decimal (a .n)) (f .fits2 .result) (rw (← k .ensures) (f .fits2 .ensures)) (e .if1 .left) in
-    (rw (k .ensures) (sym (after-fits (a .out .now) (a .at) (decimal (a .n)) h)), c .before .before .write-digits .ensures)
+returns-2 c = search needs
 
 pub put-number-spec : {M : Type 1} → statement M
 put-number-spec =
     tie.close
     (tie.spec
-    figures-requires
-    fits-requires
+    cast-t8
+    add-t9
+    slice-aggregate-put-text
+    put-text-requires
     same-length
     returns
-    add-write-digits
-    write-digits-requires
-    add-result
+    put-figures-requires
     same-length-2
     returns-2)
