@@ -102,21 +102,35 @@ fn write(log: &[u8], at: usize, p: usize) -> Reading
     }
 }
 
-// What follows a kind that ends before `p`, of the entry at `at`.
+// What follows a kind that ends before `p`, of the entry at `at`; by comparisons, since a jump by a table costs more.
 fn of_kind(log: &[u8], at: usize, kind: u32, p: usize) -> Reading
     ensures { λ r. ⌜ r ≡ kindAt (now (log .entry)) at kind p ⌝ }
 {
-    match kind {
-        0 => pulse(log, at, p),
-        1 => veto(log, at, p),
-        2 => Reading::Entry(Entry::Test, p),
-        3 => Reading::Entry(Entry::Clear, p),
-        4 => Reading::Entry(Entry::Trigger, p),
-        5 => read(log, at, p),
-        6 => write(log, at, p),
-        7 => Reading::Entry(Entry::ManClr, p),
-        _ => Reading::Refused(Fault::NoSuchKind, at),
+    if kind < 2 {
+        if kind == 0 {
+            return pulse(log, at, p);
+        }
+        return veto(log, at, p);
     }
+    if kind < 5 {
+        if kind == 4 {
+            return Reading::Entry(Entry::Trigger, p);
+        }
+        if kind == 2 {
+            return Reading::Entry(Entry::Test, p);
+        }
+        return Reading::Entry(Entry::Clear, p);
+    }
+    if kind < 7 {
+        if kind == 5 {
+            return read(log, at, p);
+        }
+        return write(log, at, p);
+    }
+    if kind == 7 {
+        return Reading::Entry(Entry::ManClr, p);
+    }
+    Reading::Refused(Fault::NoSuchKind, at)
 }
 
 // The entry at a place.
