@@ -34,6 +34,17 @@ unfolding ones onesIn
 ones-all zero m h = rw (lt-one h)
 ones-all (suc d) m h = ones-step m ∙ ap (λ (n : ℕ). m % 2 + n) (ones-all d (m / 2) (omega (arith, pow-suc 2 d)))
 
+-- 0 has no ones, and of the numbers of d bits only 0
+pub ones-of-zero : (d : ℕ) → onesIn d 0 ≡ 0
+unfolding onesIn
+ones-of-zero zero = refl
+ones-of-zero (suc d) = rw (ones-of-zero d)
+
+pub only-zero : (d m : ℕ) → m < 2 ^ d → onesIn d m ≡ 0 → m ≡ 0
+unfolding onesIn
+only-zero zero m h e = lt-one h
+only-zero (suc d) m h e = omega (arith, only-zero d (m / 2) (omega (arith, pow-suc 2 d)) (omega arith))
+
 -- no ones, no channels
 pub enabled-none : (d k : ℕ) → enabledFrom d k 0 ≡ []
 unfolding enabledFrom

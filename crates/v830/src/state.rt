@@ -72,7 +72,7 @@ fn store_fits(m: Store) -> bool
     stored.0 <= capacity.0
 }
 
-// Whether the words stored can be those of events.
+// Whether the words stored can be those of events, which have words where a channel is enabled or there is a header.
 fn is_explained(s: V830) -> bool
     ensures { λ r. ⌜ r ≡ explained s ⌝ }
 {
@@ -81,8 +81,10 @@ fn is_explained(s: V830) -> bool
     if stored.0 == 0 {
         return true;
     }
-    let length = layout::event_length(settings(s));
-    length.0 != 0
+    if s.enable != 0 {
+        return true;
+    }
+    is_set(5, s.control)
 }
 
 // Whether a record is not malformed.
