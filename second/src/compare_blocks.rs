@@ -94,16 +94,16 @@ impl Counted for BlocksTally {
 
 /// Compares COMMAND's `blocks` listing of every input with this program's own.
 pub fn compare_blocks(program: &Program, seed: u64, cases: usize) -> Verdict {
-    let part = |name, inputs, complete| Part {
+    let part = |name, inputs, needed| Part {
         program,
         name,
         inputs,
-        complete,
+        needed,
     };
     let parts = [
-        part("fixed", fixed_blocks(), true),
-        part("long", long_blocks(seed), false),
-        part("random", make_blocks(seed, cases), true),
+        part("fixed", fixed_blocks(), Some(Counted::shown)),
+        part("long", long_blocks(seed), None),
+        part("random", make_blocks(seed, cases), Some(Counted::shown)),
     ];
     compare_parts::<BlocksTally>(seed, &own_blocks, &parts)
 }

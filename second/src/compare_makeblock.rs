@@ -75,7 +75,7 @@ pub fn compare_makeblock(program: &Program, seed: u64, cases: usize) -> Verdict 
         program,
         name,
         inputs,
-        complete: true,
+        needed: Some(Counted::shown),
     };
     let parts = [
         part("fixed", fixed_requests()),

@@ -3,6 +3,8 @@
 use crate::compare::Verdict;
 use crate::compare_trace::FAULTS;
 use crate::cut_replays::{cut_replays, logs_in_pieces};
+use crate::edge_replays::edge_replays;
+use crate::edge_tally::EdgeTally;
 use crate::fixed_replays::fixed_replays;
 use crate::log::{number_at, KINDS, KIND_TOO_LARGE, OUT_OF_RANGE};
 use crate::long_replays::long_replays;
@@ -66,6 +68,7 @@ pub struct ReplayTally {
     /// The multiples of a buffer's length inside the logs, and inside their listings.
     read_edges: usize,
     written_edges: usize,
+    splits: EdgeTally,
     module: V830Tally,
     faults: Row<u32>,
     faults_in: Row<FaultIn>,
@@ -79,11 +82,19 @@ impl Default for ReplayTally {
             entries: 0,
             read_edges: 0,
             written_edges: 0,
+            splits: EdgeTally::default(),
             module: V830Tally::of_replay(),
             faults: Row::new("faults of logs", FAULTS),
             faults_in: Row::new("faults in entries", FaultIn::every()),
             logs: Row::new("logs", ["empty", "60 entries or more", "with less"]),
         }
+    }
+}
+
+impl ReplayTally {
+    /// The counts of the splits in words, and whether every one occurred.
+    fn shown_splits(&self) -> (String, bool) {
+        self.splits.shown()
     }
 }
 
@@ -102,6 +113,7 @@ impl Counted for ReplayTally {
         self.entries += entries.len();
         self.read_edges += edges(log.len());
         self.written_edges += edges(own_replay(log).len());
+        self.splits.add(log, &entries, fault);
         self.module
             .add_run(&replay_head(), entries.iter().map(Call::of));
         self.logs.add(match entries.len() {
@@ -142,24 +154,25 @@ impl Counted for ReplayTally {
     }
 }
 
-/// Compares COMMAND's `replay` listing of every log with this program's own; `in_pieces` is COMMAND fed
-/// in pieces.
+/// Compares COMMAND's `replay` listing of every log with this program's own; `program` is COMMAND with
+/// long logs as files, which fill its buffer, and `in_pieces` is COMMAND fed in pieces.
 pub fn compare_replay(program: &Program, in_pieces: &Program, seed: u64, cases: usize) -> Verdict {
-    let part = |name, inputs, complete| Part {
+    let part = |name, inputs, needed| Part {
         program,
         name,
         inputs,
-        complete,
+        needed,
     };
     let parts = [
-        part("fixed", fixed_replays(), true),
-        part("random", make_replays(seed, cases), true),
-        part("cut", cut_replays(seed), false),
+        part("fixed", fixed_replays(), Some(Counted::shown)),
+        part("random", make_replays(seed, cases), Some(Counted::shown)),
+        part("cut", cut_replays(seed), None),
         Part {
             program: in_pieces,
-            ..part("fed in pieces", logs_in_pieces(seed), false)
+            ..part("fed in pieces", logs_in_pieces(seed), None)
         },
-        part("long", long_replays(seed), false),
+        part("long", long_replays(seed), None),
+        part("edge", edge_replays(), Some(ReplayTally::shown_splits)),
     ];
     compare_parts::<ReplayTally>(seed, &own_replay, &parts)
 }

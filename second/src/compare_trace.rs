@@ -104,16 +104,16 @@ pub fn compare_trace(program: &Program, seed: u64, cases: usize) -> Verdict {
         books.enter(input, &listing);
         Ok(listing)
     };
-    let part = |name, inputs, complete| Part {
+    let part = |name, inputs, needed| Part {
         program: &entered,
         name,
         inputs,
-        complete,
+        needed,
     };
     let parts = [
-        part("fixed", fixed_traces(), true),
-        part("long", long_traces(seed), false),
-        part("random", make_traces(seed, cases), true),
+        part("fixed", fixed_traces(), Some(Counted::shown)),
+        part("long", long_traces(seed), None),
+        part("random", make_traces(seed, cases), Some(Counted::shown)),
     ];
     let verdict = compare_parts::<TraceTally>(seed, &own_trace, &parts);
     drop(parts);

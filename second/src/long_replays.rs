@@ -7,12 +7,11 @@ use crate::module::Call::{self, *};
 use crate::replay_listing::{own_replay, replay_head};
 use crate::rng::Rng;
 use crate::runs::Input;
-use crate::v830_scripts::{set_up, MEMORY, NUMBER, TRIGGERS};
+use crate::v830_scripts::{set_up, ENABLE, MEMORY, NUMBER, TRIGGERS};
 
-/// The entries laid across the edges: a step that is lost or done twice there shows in what follows.
-const ACROSS: [Call; 6] = [
-    LONGEST,
-    Write(0x1100, 32, 0xF000_0003),
+/// The entries laid across the edges, besides the longest ones: a step that is lost or done twice there
+/// shows in what follows.
+const ACROSS: [Call; 4] = [
     Write(0x1124, 16, 0xFFFF),
     Pulses(30, 300),
     Read(0x0FFC, 32),
@@ -78,8 +77,13 @@ fn edges(split: usize) -> [usize; 2] {
     [EDGE, 2 * EDGE - split]
 }
 
-/// A call with so many bytes in front of each edge, the others behind it, and looks behind that.
+/// A call with so many bytes in front of each edge.
 fn across(call: Call, split: usize) -> Vec<u8> {
+    laid_across(&edges(split).map(|edge| (edge, call)), split)
+}
+
+/// Calls with so many bytes in front of their edges, the others behind these, and looks behind that.
+pub fn laid_across(laid: &[(usize, Call)], split: usize) -> Vec<u8> {
     // Ten events of three words wait to be read, but for a Channel Enable write, which they would refuse.
     let mut bytes = log_of(&set_up(0x4000_0001, 0x21));
     bytes.extend(log_of(&[
@@ -90,10 +94,10 @@ fn across(call: Call, split: usize) -> Vec<u8> {
         Test,
     ]));
     bytes.extend(log_of(&[Trigger; 8]));
-    if matches!(call, Write(0x1100, ..)) {
+    if matches!(laid[0].1, Write(ENABLE, ..)) {
         bytes.extend(log_of(&set_up(0x4000_0001, 0x20)));
     }
-    for edge in edges(split) {
+    for (edge, call) in laid {
         fill_to(&mut bytes, edge - split);
         bytes.extend(call.bytes());
         bytes.extend(log_of(&LOOK));
@@ -192,8 +196,7 @@ mod tests {
 
     #[test]
     fn what_lies_across_an_edge_is_answered() {
-        // Each of them does something there, but for the longest one, which is refused.
-        for call in ACROSS.into_iter().skip(1) {
+        for call in ACROSS {
             let log = across(call, 1);
             let (entries, _) = entries_from(&log, 0);
             let listing = own_replay(&log);
@@ -204,6 +207,6 @@ mod tests {
                 assert_eq!(line.split(' ').nth(1), Some("0"), "{:?}", call);
             }
         }
-        assert!(long_replays(DEFAULT_SEED).len() > 50);
+        assert!(long_replays(DEFAULT_SEED).len() >= 50);
     }
 }

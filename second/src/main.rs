@@ -17,6 +17,8 @@ mod compare_makeblock;
 mod compare_replay;
 mod compare_trace;
 mod cut_replays;
+mod edge_replays;
+mod edge_tally;
 mod failing;
 mod fixed_blocks;
 mod fixed_cases;
@@ -170,8 +172,9 @@ fn compare(
         Subject::Makeblock => compare_makeblock::compare_makeblock(&program, seed, cases),
         Subject::Trace => compare_trace::compare_trace(&program, seed, cases),
         Subject::Replay => {
+            let filled = |input: &[u8], most: usize| run::run_filled(command, input, most);
             let in_pieces = |input: &[u8], most: usize| run::run_in_pieces(command, input, most);
-            compare_replay::compare_replay(&program, &in_pieces, seed, cases)
+            compare_replay::compare_replay(&filled, &in_pieces, seed, cases)
         }
     }
 }

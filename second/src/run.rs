@@ -1,8 +1,11 @@
 //! Runs the compared COMMAND: bytes into its standard input, its listing out.
 
+use std::env;
 use std::ffi::OsString;
-use std::io::{self, Read, Write};
-use std::process::{Child, ChildStdin, Command, ExitStatus, Stdio};
+use std::fs::{self, File};
+use std::io::{self, Read, Seek, Write};
+use std::process::{self, Child, ChildStdin, Command, ExitStatus, Stdio};
+use std::sync::atomic::{AtomicUsize, Ordering};
 use std::sync::mpsc::{channel, Receiver};
 use std::thread;
 use std::time::{Duration, Instant};
@@ -15,6 +18,9 @@ const COMPLAINT_LENGTH: usize = 2_000;
 /// The pieces in which an input is fed where it is fed so, over and over, and the pause before each.
 const PIECES: [usize; 6] = [1, 7, 4_095, 3, 61, 2];
 const PAUSE: Duration = Duration::from_millis(1);
+
+/// Inputs of so many bytes or more are long: those of a buffer of 65,536 bytes, and those that end just before it.
+const LONG: usize = 65_000;
 
 /// Why a run gave no listing.
 #[derive(Debug)]
@@ -44,6 +50,19 @@ pub fn run_in_pieces(command: &[OsString], input: &[u8], most: usize) -> Result<
     run_fed(command, input, most, feed_in_pieces)
 }
 
+/// Runs the command likewise, a long input being a file: every read of it gives all that is asked for, up
+/// to the end, which a read of a pipe need not.
+pub fn run_filled(command: &[OsString], input: &[u8], most: usize) -> Result<Vec<u8>, Trouble> {
+    if input.len() < LONG {
+        return run(command, input, most);
+    }
+    let file = nameless_file(input).map_err(|error| {
+        let folder = env::temp_dir();
+        Trouble::Hopeless(format!("no file in {}: {}", folder.display(), error))
+    })?;
+    listing_of(start(command, Stdio::from(file))?, command, most)
+}
+
 /// Runs the command once, its input fed so.
 fn run_fed(
     command: &[OsString],
@@ -51,9 +70,14 @@ fn run_fed(
     most: usize,
     feed: fn(ChildStdin, Vec<u8>),
 ) -> Result<Vec<u8>, Trouble> {
-    let deadline = Instant::now() + TIME_LIMIT;
-    let mut child = start(command)?;
+    let mut child = start(command, Stdio::piped())?;
     feed(child.stdin.take().expect("piped"), input.to_vec());
+    listing_of(child, command, most)
+}
+
+/// The listing of the command as it was started.
+fn listing_of(mut child: Child, command: &[OsString], most: usize) -> Result<Vec<u8>, Trouble> {
+    let deadline = Instant::now() + TIME_LIMIT;
     let listing = collect(child.stdout.take().expect("piped"), most + 1);
     let complaint = collect(child.stderr.take().expect("piped"), COMPLAINT_LENGTH);
     let listing = match listing.recv_timeout(TIME_LIMIT) {
@@ -81,11 +105,28 @@ fn run_fed(
     )))
 }
 
-/// Starts the command with all three streams piped.
-fn start(command: &[OsString]) -> Result<Child, Trouble> {
+/// A file in the system's temporary folder, of this content and open at its beginning. Its name is
+/// removed at once, so that nothing is left of it, whatever ends this program.
+fn nameless_file(content: &[u8]) -> io::Result<File> {
+    static FILES: AtomicUsize = AtomicUsize::new(0);
+    let number = FILES.fetch_add(1, Ordering::SeqCst);
+    let path = env::temp_dir().join(format!("second-{}-{}", process::id(), number));
+    let mut file = File::options()
+        .read(true)
+        .write(true)
+        .create_new(true)
+        .open(&path)?;
+    fs::remove_file(&path)?;
+    file.write_all(content)?;
+    file.rewind()?;
+    Ok(file)
+}
+
+/// Starts the command with this standard input, its other two streams piped.
+fn start(command: &[OsString], input: Stdio) -> Result<Child, Trouble> {
     Command::new(&command[0])
         .args(&command[1..])
-        .stdin(Stdio::piped())
+        .stdin(input)
         .stdout(Stdio::piped())
         .stderr(Stdio::piped())
         .spawn()
@@ -176,7 +217,7 @@ mod tests {
     fn pieces_arrive_apart_and_whole() {
         let input: Vec<u8> = (0..100_000u32).map(|place| place as u8).collect();
         let cat = [OsString::from("cat")];
-        for fed in [run, run_in_pieces] {
+        for fed in [run, run_in_pieces, run_filled] {
             assert_eq!(fed(&cat, &input, 200_000).expect("a copy"), input);
         }
         // One read takes what is there by then, which is not all.
@@ -184,5 +225,17 @@ mod tests {
         let first = run_in_pieces(&once, &input, 200_000).expect("a part");
         assert!(first.len() < input.len(), "{} bytes", first.len());
         assert!(input.starts_with(&first) && !first.is_empty());
+    }
+
+    #[test]
+    fn each_read_of_a_long_input_is_filled_up_to_the_end() {
+        let input: Vec<u8> = (0..150_000u32).map(|place| place as u8).collect();
+        for (before, piece) in input.chunks(65_536).enumerate() {
+            let reads = format!("dd bs=65536 count={} of=/dev/null", before);
+            let script = format!("{} && exec dd bs=65536 count=1", reads);
+            let command = ["sh", "-c", &script].map(OsString::from);
+            let read = run_filled(&command, &input, 200_000).expect("a part");
+            assert_eq!(read, piece);
+        }
     }
 }

@@ -95,17 +95,20 @@ pub trait Counted: Default {
     }
 }
 
+/// Counts in words, and whether every possible thing occurred.
+pub type Shown<T> = fn(&T) -> (String, bool);
+
 /// Some inputs of a comparison, and COMMAND as it is run on them.
-pub struct Part<'a> {
+pub struct Part<'a, T> {
     pub program: &'a Program<'a>,
     pub name: &'static str,
     pub inputs: Vec<Input>,
-    /// Whether every possible thing must occur among them.
-    pub complete: bool,
+    /// The counts of them that are shown, if any: every possible thing must occur.
+    pub needed: Option<Shown<T>>,
 }
 
 /// Compares COMMAND with this program part by part.
-pub fn compare_parts<T: Counted>(seed: u64, list: &Lister, parts: &[Part]) -> Verdict {
+pub fn compare_parts<T: Counted>(seed: u64, list: &Lister, parts: &[Part<T>]) -> Verdict {
     let mut words = format!("seed {}\n", seed);
     let mut counted = Vec::new();
     for part in parts {
@@ -123,7 +126,7 @@ pub fn compare_parts<T: Counted>(seed: u64, list: &Lister, parts: &[Part]) -> Ve
 }
 
 /// Compares one part; the words of the first failure, or those of agreement and the counts.
-fn compare_part<T: Counted>(list: &Lister, part: &Part) -> Result<(String, T), String> {
+fn compare_part<T: Counted>(list: &Lister, part: &Part<T>) -> Result<(String, T), String> {
     if let Some((input, finding)) = first_failing_input(part.program, &part.inputs, list) {
         let words = finding.shown(&input.shown());
         return Err(match finding {
@@ -142,11 +145,10 @@ fn compare_part<T: Counted>(list: &Lister, part: &Part) -> Result<(String, T), S
         counts.events(),
         T::WHAT
     );
-    let (rows, complete) = counts.shown();
-    match (part.complete, complete) {
-        (false, _) => Ok((agreed, counts)),
-        (true, true) => Ok((agreed + &rows, counts)),
-        (true, false) => Err(format!(
+    match part.needed.map(|shown| shown(&counts)) {
+        None => Ok((agreed, counts)),
+        Some((rows, true)) => Ok((agreed + &rows, counts)),
+        Some((rows, false)) => Err(format!(
             "{}{}too few {} inputs: not everything possible occurred\n",
             agreed, rows, part.name
         )),

@@ -33,7 +33,9 @@ compares the proved programs' listings (docs/FORMATS.md) with its own.
       Bench logs of a V830 in the format of replay, run likewise. N random
       whole logs are made (1200 unless said otherwise), besides broken ones,
       the fixed ones, logs cut at each of their last bytes, logs fed in small
-      pieces, and logs and listings longer than 65,536 bytes.
+      pieces, logs and listings longer than 65,536 bytes, and logs whose longest
+      entries lie over an edge of these at every split, whole and cut. A long
+      log is a file in TMPDIR, removed at once; a shorter one comes by a pipe.
   second answer logs
       Reads cases on standard input, prints the listing of logcases.
   second answer entries

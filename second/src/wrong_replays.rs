@@ -1,10 +1,13 @@
 //! Tests of `compare replay` itself: listings and modules that are wrong on purpose must be caught.
 
 use crate::compare_replay::{compare_replay, DEFAULT_LOGS};
+use crate::edge_replays::edge_replays;
 use crate::fixed_replays::fixed_replays;
 use crate::fixed_v830_traces::v830;
 use crate::log::Entry;
 use crate::long_replays::long_replays;
+use crate::long_traces::LONGEST;
+use crate::make_numbers::shortest;
 use crate::make_replays::make_replays;
 use crate::module::{Call, Given, Module};
 use crate::own_module::{own_start, Own};
@@ -245,6 +248,41 @@ const WRONG_AT_EDGE: [(&str, WrongListing); 9] = [
     }),
 ];
 
+/// Listings that are wrong only where an entry lies over an edge and is long, or cut.
+const WRONG_OVER_EDGE: [(&str, WrongListing); 4] = [
+    ("the groups of data behind the edge lost", |log| {
+        with_steps(log, |module, entry, from| match Call::of(entry) {
+            Call::Write(offset, 32, data) if lies_across(entry, from) => {
+                let kept = shortest(data).len().saturating_sub(entry.place % 65_536);
+                let mask = (1u64 << (7 * kept)) - 1;
+                module.call(Call::Write(offset, 32, data & mask as u32))
+            }
+            call => module.call(call),
+        })
+    }),
+    ("what is cut at the edge taken as the end", |log| {
+        let cut = cut_over_edge(log).filter(|_| log.len() == 65_536);
+        own_replay(&log[..cut.unwrap_or(log.len())])
+    }),
+    ("what is cut behind the edge taken as the end", |log| {
+        let cut = cut_over_edge(log).filter(|_| log.len() > 65_536);
+        own_replay(&log[..cut.unwrap_or(log.len())])
+    }),
+    (
+        "what is cut behind the edge told there",
+        |log| match cut_over_edge(log) {
+            Some(_) => with_fault(log, |answer, _| format!("fault {} 65536\n", answer)),
+            None => own_replay(log),
+        },
+    ),
+];
+
+/// The place of the entry that begins before the first edge and is cut there or behind it, if any.
+fn cut_over_edge(log: &[u8]) -> Option<usize> {
+    let (_, place) = entries_from(log, 0).1?;
+    (place < 65_536 && log.len() >= 65_536).then_some(place)
+}
+
 /// Slips of a V830 that no replay shows.
 const NOT_SHOWN: [Slip830; 27] = [
     // Of another start than the replay's, and of a GEO other than 0.
@@ -297,6 +335,42 @@ fn long_logs_catch_what_goes_wrong_at_an_edge() {
     for (what, wrong) in WRONG_AT_EDGE {
         let program = |log: &[u8]| wrong(log).into_bytes();
         assert!(caught(&program, &long, &own_replay), "{}", what);
+    }
+}
+
+#[test]
+fn edge_logs_catch_what_goes_wrong_over_an_edge() {
+    let edge = edge_replays();
+    for (what, wrong) in WRONG_OVER_EDGE {
+        let program = |log: &[u8]| wrong(log).into_bytes();
+        assert!(caught(&program, &edge, &own_replay), "{}", what);
+    }
+}
+
+#[test]
+fn what_goes_wrong_at_one_split_alone_is_caught() {
+    let logs: Vec<Vec<u8>> = edge_replays()
+        .into_iter()
+        .map(|input| input.bytes)
+        .collect();
+    let longest = LONGEST.bytes();
+    for split in 1..10 {
+        for edge in [65_536, 131_072 - split, 131_072] {
+            // The entry there is lost.
+            let is_laid =
+                |log: &&Vec<u8>| log.get(edge - split..edge - split + 10) == Some(&longest);
+            let log = logs.iter().find(is_laid).expect("one of this split");
+            let lost = [&log[..edge - split], &log[edge - split + 10..]].concat();
+            assert_ne!(own_replay(&lost), own_replay(log), "{} at {}", split, edge);
+        }
+        for behind in 0..10 - split {
+            // The end inside the entry is taken as the end.
+            let is_cut = |log: &&Vec<u8>| {
+                log.len() == 65_536 + behind && cut_over_edge(log) == Some(65_536 - split)
+            };
+            let log = logs.iter().find(is_cut).expect("one cut so");
+            assert_ne!(own_replay(&log[..65_536 - split]), own_replay(log));
+        }
     }
 }
 

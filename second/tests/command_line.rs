@@ -1,6 +1,8 @@
 //! The program as it is run: exit codes and words.
 
+use std::fs;
 use std::io::Write;
+use std::path::Path;
 use std::process::{Command, Output, Stdio};
 
 const SECOND: &str = env!("CARGO_BIN_EXE_second");
@@ -156,6 +158,37 @@ fn a_listing_cut_short_is_a_mismatch() {
         assert_eq!(code, Some(1), "{}", words);
         assert!(words.contains("MISMATCH"), "{}", words);
     }
+}
+
+#[test]
+fn what_goes_wrong_where_a_filled_buffer_ends_is_caught() {
+    // One byte is lost there if the log is a file, of which every read is filled.
+    let lost = "if [ -f /dev/stdin ]; then head -c 65536; head -c 1 >/dev/null; fi; cat";
+    let script = format!("{{ {}; }} | '{}' replay", lost, SECOND);
+    let folder = Path::new(env!("CARGO_TARGET_TMPDIR")).join("files");
+    fs::create_dir_all(&folder).expect("a folder");
+    let output = Command::new(SECOND)
+        .args(["compare", "replay", "--", "sh", "-c", &script])
+        .env("TMPDIR", &folder)
+        .output()
+        .expect("the program ends");
+    let words = String::from_utf8(output.stdout).expect("text");
+    assert_eq!(output.status.code(), Some(1), "{}", words);
+    assert!(words.contains("MISMATCH in "), "{}", words);
+    assert_eq!(fs::read_dir(&folder).expect("a folder").count(), 0);
+    fs::remove_dir(&folder).expect("an empty folder");
+}
+
+#[test]
+fn without_a_folder_for_files_it_fails() {
+    let output = Command::new(SECOND)
+        .args(["compare", "replay", "--", SECOND, "replay"])
+        .env("TMPDIR", "/no/such/folder")
+        .output()
+        .expect("the program ends");
+    let words = String::from_utf8(output.stdout).expect("text");
+    assert_eq!(output.status.code(), Some(1), "{}", words);
+    assert!(words.contains("no file in /no/such/folder"), "{}", words);
 }
 
 #[test]
