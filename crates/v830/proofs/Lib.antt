@@ -1,3 +1,4 @@
+pub mod OneWay
 pub mod Forming
 pub mod Taking
 pub mod RingLaws

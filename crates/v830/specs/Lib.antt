@@ -6,3 +6,4 @@ pub mod Trigger
 pub mod Registers
 pub mod Calls
 pub mod Account
+pub mod Lending
