@@ -83,6 +83,7 @@ use Rattle.text.proofs.fits.Reads as text-fits
 use Rattle.text.proofs.put_text.Reads as text-put-text
 use Rattle.text.proofs.put_words.Reads as text-put-words
 use Rattle.text.proofs.put_number.Reads as text-put-number
+use Rattle.text.proofs.figures.Reads as text-figures
 use Rattle.text.proofs.put_line.Reads as text-put-line
 use Rattle.text.proofs.put_fault.Reads as text-put-fault
 use Rattle.stdio.proofs.begin.Reads as stdio-begin
@@ -332,6 +333,9 @@ one-text-put-words κ given first second e d p q = (determined (p .0) (q .0), de
 
 pub one-text-put-number : OneOutcome text-put-number.Post (λ κ e. now (e .0))
 one-text-put-number κ given first second e d p q = (determined (p .0) (q .0), determined (p .1) (q .1))
+
+pub one-text-figures : OneResult text-figures.Post
+one-text-figures κ given first second e d p q = determined p q
 
 pub one-text-put-line : OneOutcome text-put-line.Post (λ κ e. now (e .0))
 one-text-put-line κ given first second e d p q = (determined (p .0) (q .0), determined (p .1) (q .1))
