@@ -1,4 +1,4 @@
-// The number of an entry, counted up as its line shows it, so that a line divides nothing.
+// The number of an entry, counted up as its line shows it, so that its digits are not divided out line by line.
 ghost use mathlib.Core.Path.{_≡_};
 ghost use mathlib.Core.List.{[], _∷_};
 ghost use Prim.Native.Nat.{_+_, _%_, _^_, _<_, _≤_};
