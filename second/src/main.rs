@@ -81,6 +81,8 @@ mod wrong_block_readers;
 #[cfg(test)]
 mod wrong_block_writers;
 #[cfg(test)]
+mod wrong_edges;
+#[cfg(test)]
 mod wrong_modules;
 #[cfg(test)]
 mod wrong_readers;

@@ -1,13 +1,10 @@
 //! Tests of `compare replay` itself: listings and modules that are wrong on purpose must be caught.
 
 use crate::compare_replay::{compare_replay, DEFAULT_LOGS};
-use crate::edge_replays::edge_replays;
 use crate::fixed_replays::fixed_replays;
 use crate::fixed_v830_traces::v830;
 use crate::log::Entry;
 use crate::long_replays::long_replays;
-use crate::long_traces::LONGEST;
-use crate::make_numbers::shortest;
 use crate::make_replays::make_replays;
 use crate::module::{Call, Given, Module};
 use crate::own_module::{own_start, Own};
@@ -24,7 +21,7 @@ use crate::wrong_v830_slips::SLIPS_830;
 const SHARE: usize = 600;
 
 /// A listing that is wrong.
-type WrongListing = fn(&[u8]) -> String;
+pub type WrongListing = fn(&[u8]) -> String;
 
 /// The listing of this program's own V830 started with another GEO or memory.
 fn started(log: &[u8], geo: u32, words: u32) -> String {
@@ -32,7 +29,7 @@ fn started(log: &[u8], geo: u32, words: u32) -> String {
 }
 
 /// The listing with each line behind the title changed, by its number.
-fn with_lines(log: &[u8], change: fn(usize, &str) -> String) -> String {
+pub fn with_lines(log: &[u8], change: fn(usize, &str) -> String) -> String {
     let right = own_replay(log);
     let lines = right.lines().enumerate().skip(1);
     lines.fold(REPLAY_TITLE.to_string(), |listing, (number, line)| {
@@ -41,7 +38,7 @@ fn with_lines(log: &[u8], change: fn(usize, &str) -> String) -> String {
 }
 
 /// The listing with its fault changed, by the number and the place.
-fn with_fault(log: &[u8], change: fn(u32, usize) -> String) -> String {
+pub fn with_fault(log: &[u8], change: fn(u32, usize) -> String) -> String {
     let right = own_replay(log);
     match entries_from(log, 0).1 {
         None => right,
@@ -53,7 +50,7 @@ fn with_fault(log: &[u8], change: fn(u32, usize) -> String) -> String {
 }
 
 /// The listing of a module whose steps are done otherwise, by the place of the entry's first byte.
-fn with_steps(log: &[u8], step: fn(&mut Own, &Entry, usize) -> Given) -> String {
+pub fn with_steps(log: &[u8], step: fn(&mut Own, &Entry, usize) -> Given) -> String {
     let (_, mut module) = own_start(&replay_head());
     let mut from = 0;
     let mut listing = REPLAY_TITLE.to_string();
@@ -67,11 +64,6 @@ fn with_steps(log: &[u8], step: fn(&mut Own, &Entry, usize) -> Given) -> String 
         Some((answer, place)) => listing + &format!("fault {} {}\n", answer, place),
         None => listing,
     }
-}
-
-/// Whether an entry lies across an edge of 65,536 bytes.
-fn lies_across(entry: &Entry, from: usize) -> bool {
-    from / 65_536 < (entry.place - 1) / 65_536
 }
 
 /// Listings that logs of every length show to be wrong.
@@ -178,111 +170,6 @@ const WRONG_MEMORIES: [(&str, WrongListing); 4] = [
     }),
 ];
 
-/// Listings that only logs or listings longer than 65,536 bytes show to be wrong.
-const WRONG_AT_EDGE: [(&str, WrongListing); 9] = [
-    ("nothing is read behind the edge", |log| {
-        own_replay(&log[..log.len().min(65_536)])
-    }),
-    ("an entry across the edge is lost", |log| {
-        let mut kept = Vec::new();
-        let mut from = 0;
-        for entry in entries_from(log, 0).0 {
-            if !lies_across(&entry, from) {
-                kept.extend(&log[from..entry.place]);
-            }
-            from = entry.place;
-        }
-        own_replay(&[&kept[..], &log[from..]].concat())
-    }),
-    ("a step across the edge not done, but told", |log| {
-        with_steps(log, |module, entry, from| match lies_across(entry, from) {
-            true => Given::new(Ok(0)),
-            false => module.call(Call::of(entry)),
-        })
-    }),
-    ("a step across the edge done twice, told once", |log| {
-        with_steps(log, |module, entry, from| {
-            let given = module.call(Call::of(entry));
-            if lies_across(entry, from) {
-                module.call(Call::of(entry));
-            }
-            given
-        })
-    }),
-    (
-        "a step that ends at the edge done twice, told once",
-        |log| {
-            with_steps(log, |module, entry, _| {
-                let given = module.call(Call::of(entry));
-                if entry.place % 65_536 == 0 {
-                    module.call(Call::of(entry));
-                }
-                given
-            })
-        },
-    ),
-    ("places of 16 bits", |log| {
-        with_fault(log, |answer, place| {
-            format!("fault {} {}\n", answer, place % 65_536)
-        })
-    }),
-    ("entries of 16 bits", |log| {
-        with_lines(log, |number, line| match line.split_once(' ') {
-            Some((_, rest)) if !line.starts_with('f') => format!("{} {}", number % 65_536, rest),
-            _ => line.to_string(),
-        })
-    }),
-    ("a line across the listing's edge cut there", |log| {
-        let right = own_replay(log);
-        match right.len() > 65_536 {
-            true => {
-                let next = right[65_536..].find('\n').expect("its end") + 65_536;
-                right[..65_536].to_string() + &right[next..]
-            }
-            false => right,
-        }
-    }),
-    ("nothing is written behind the listing's edge", |log| {
-        let right = own_replay(log);
-        right[..right.len().min(65_536)].to_string()
-    }),
-];
-
-/// Listings that are wrong only where an entry lies over an edge and is long, or cut.
-const WRONG_OVER_EDGE: [(&str, WrongListing); 4] = [
-    ("the groups of data behind the edge lost", |log| {
-        with_steps(log, |module, entry, from| match Call::of(entry) {
-            Call::Write(offset, 32, data) if lies_across(entry, from) => {
-                let kept = shortest(data).len().saturating_sub(entry.place % 65_536);
-                let mask = (1u64 << (7 * kept)) - 1;
-                module.call(Call::Write(offset, 32, data & mask as u32))
-            }
-            call => module.call(call),
-        })
-    }),
-    ("what is cut at the edge taken as the end", |log| {
-        let cut = cut_over_edge(log).filter(|_| log.len() == 65_536);
-        own_replay(&log[..cut.unwrap_or(log.len())])
-    }),
-    ("what is cut behind the edge taken as the end", |log| {
-        let cut = cut_over_edge(log).filter(|_| log.len() > 65_536);
-        own_replay(&log[..cut.unwrap_or(log.len())])
-    }),
-    (
-        "what is cut behind the edge told there",
-        |log| match cut_over_edge(log) {
-            Some(_) => with_fault(log, |answer, _| format!("fault {} 65536\n", answer)),
-            None => own_replay(log),
-        },
-    ),
-];
-
-/// The place of the entry that begins before the first edge and is cut there or behind it, if any.
-fn cut_over_edge(log: &[u8]) -> Option<usize> {
-    let (_, place) = entries_from(log, 0).1?;
-    (place < 65_536 && log.len() >= 65_536).then_some(place)
-}
-
 /// Slips of a V830 that no replay shows.
 const NOT_SHOWN: [Slip830; 27] = [
     // Of another start than the replay's, and of a GEO other than 0.
@@ -326,51 +213,6 @@ fn every_wrong_listing_is_caught_by_fixed_and_by_random_logs() {
         let program = |log: &[u8]| wrong(log).into_bytes();
         assert!(caught(&program, &fixed, &own_replay), "fixed: {}", what);
         assert!(caught(&program, &random, &own_replay), "random: {}", what);
-    }
-}
-
-#[test]
-fn long_logs_catch_what_goes_wrong_at_an_edge() {
-    let long = long_replays(DEFAULT_SEED);
-    for (what, wrong) in WRONG_AT_EDGE {
-        let program = |log: &[u8]| wrong(log).into_bytes();
-        assert!(caught(&program, &long, &own_replay), "{}", what);
-    }
-}
-
-#[test]
-fn edge_logs_catch_what_goes_wrong_over_an_edge() {
-    let edge = edge_replays();
-    for (what, wrong) in WRONG_OVER_EDGE {
-        let program = |log: &[u8]| wrong(log).into_bytes();
-        assert!(caught(&program, &edge, &own_replay), "{}", what);
-    }
-}
-
-#[test]
-fn what_goes_wrong_at_one_split_alone_is_caught() {
-    let logs: Vec<Vec<u8>> = edge_replays()
-        .into_iter()
-        .map(|input| input.bytes)
-        .collect();
-    let longest = LONGEST.bytes();
-    for split in 1..10 {
-        for edge in [65_536, 131_072 - split, 131_072] {
-            // The entry there is lost.
-            let is_laid =
-                |log: &&Vec<u8>| log.get(edge - split..edge - split + 10) == Some(&longest);
-            let log = logs.iter().find(is_laid).expect("one of this split");
-            let lost = [&log[..edge - split], &log[edge - split + 10..]].concat();
-            assert_ne!(own_replay(&lost), own_replay(log), "{} at {}", split, edge);
-        }
-        for behind in 0..10 - split {
-            // The end inside the entry is taken as the end.
-            let is_cut = |log: &&Vec<u8>| {
-                log.len() == 65_536 + behind && cut_over_edge(log) == Some(65_536 - split)
-            };
-            let log = logs.iter().find(is_cut).expect("one cut so");
-            assert_ne!(own_replay(&log[..65_536 - split]), own_replay(log));
-        }
     }
 }
 
