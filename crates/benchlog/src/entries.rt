@@ -102,7 +102,7 @@ fn write(log: &[u8], at: usize, p: usize) -> Reading
     }
 }
 
-// What follows a kind that ends before `p`, of the entry at `at`; by comparisons, since a jump by a table costs more.
+// What follows a kind that ends before `p`, of the entry at `at`; told by comparisons.
 fn of_kind(log: &[u8], at: usize, kind: u32, p: usize) -> Reading
     ensures { λ r. ⌜ r ≡ kindAt (now (log .entry)) at kind p ⌝ }
 {
