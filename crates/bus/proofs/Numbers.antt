@@ -1,5 +1,5 @@
--- Which number an access gets by a table: 1, 2, 3, each exactly when its line of document 01 holds and no earlier one does. What holds of each row and of every refusal holds of what is
--- looked up. Assumes nothing.
+-- Which number an access gets by a table: 1, 2, 3, each exactly when its line of document 01 holds and no earlier one does. What holds of each row and
+-- of every refusal holds of what is looked up. Assumes nothing.
 use Prim.Native.Nat.{ℕ, suc, _-_, _/_, _%_}
 use mathlib.Core.Path.{_≡_, refl, sym}
 use mathlib.Core.Bool.{Bool, true, false, cond, _&&_, false≢true}
@@ -13,13 +13,13 @@ use Rattle.bus.specs.declared.Answer.the-variants.{Done, NotInTable, Wro
 use Rattle.bus.specs.declared.table.Row.{Row}
 use Rattle.bus.specs.declared.table.Register.{Register}
 use Rattle.bus.specs.declared.table.Register.the-variants.{At, Refused}
-use Rattle.bus.specs.Answers.{numberOf, valueOf}
-use Rattle.bus.specs.Table.{covers, takesWidth, takesDirection, reach, lookUp}
+use Rattle.bus.specs.Answers.{numberOf, valueOf, isDone}
+use Rattle.bus.specs.Table.{covers, takesWidth, takesDirection, reach, lookUp, tableNumber}
 use Rattle.bus.proofs.Choices.{both-ways}
 use Rattle.bus.proofs.Places.{left-of, right-of}
 
 -- a refusal has the value 0
-pub refusal-value : (a : Answer) → eqb (numberOf a) 0 ≡ false → valueOf a ≡ 0
+pub refusal-value : (a : Answer) → isDone a ≡ false → valueOf a ≡ 0
 refusal-value (Done v) e = absurd (false≢true (sym e))
 refusal-value NotInTable e = refl
 refusal-value WrongWidth e = refl
@@ -34,14 +34,6 @@ refusal-value WrongMemory e = refl
 refusal-value NoChannel e = refl
 refusal-value Malformed e = refl
 
--- 1: no row has the offset; 2: the row that has it does not take the width; 3: nor the direction; else what the row gives
-abbrev pub tableNumber : ℕ → List Row → Access → (ℕ → ℕ) → ℕ
-tableNumber at [] a given = 1
-tableNumber at (r ∷ rs) a given =
-    cond (covers r (a .offset))
-    (cond (takesWidth r (a .width)) (cond (takesDirection r (a .write)) (given at) 3) 2)
-    (tableNumber (suc at) rs a given)
-
 -- the number of what is reached, where a row gives its own
 abbrev pub numberAt : (ℕ → ℕ → ℕ) → Register → ℕ
 numberAt number (Refused why) = numberOf why
@@ -53,7 +45,7 @@ Covering Q at [] o = Unit {0}
 Covering Q at (r ∷ rs) o = (covers r o ≡ true → (place : ℕ) → Q at place) × Covering Q (suc at) rs o
 
 -- what holds of the number of every refusal, and of the number of each row that has the offset, holds of the number by the table and what is looked up
-looked-up : (P : ℕ → Register → Type 0) (at : ℕ) (rows : List Row) (a : Access) (given : ℕ → ℕ) → ((why : Answer) → eqb (numberOf why) 0 ≡ false → P (numberOf why) (Refused why))
+looked-up : (P : ℕ → Register → Type 0) (at : ℕ) (rows : List Row) (a : Access) (given : ℕ → ℕ) → ((why : Answer) → isDone why ≡ false → P (numberOf why) (Refused why))
     → Covering (λ at place. P (given at) (At at place)) at rows (a .offset) → P (tableNumber at rows a given) (lookUp at rows a)
 unfolding lookUp
 looked-up P at [] a given refusal g = refusal NotInTable refl
@@ -111,11 +103,11 @@ covering Q at [] o k = k tt
 covering Q at (r ∷ rs) o k = if-used r o (leb (r .0) (r .1)) refl (λ f. covering Q (suc at) rs o (λ g. k (f, g)))
 
 -- a table's rows one after the other, each with its number
-pub each-number : (P : ℕ → Register → Type 0) (rows : List Row) (a : Access) (given : ℕ → ℕ) → ((why : Answer) → eqb (numberOf why) 0 ≡ false → P (numberOf why) (Refused why))
+pub each-number : (P : ℕ → Register → Type 0) (rows : List Row) (a : Access) (given : ℕ → ℕ) → ((why : Answer) → isDone why ≡ false → P (numberOf why) (Refused why))
     → EachRow (λ at place. P (given at) (At at place)) 0 rows (P (tableNumber 0 rows a given) (lookUp 0 rows a))
 each-number P rows a given refusal = covering (λ at place. P (given at) (At at place)) 0 rows (a .offset) (looked-up P 0 rows a given refusal)
 
 -- and without
-pub each-row : (P : Register → Type 0) (rows : List Row) (a : Access) → ((why : Answer) → eqb (numberOf why) 0 ≡ false → P (Refused why))
+pub each-row : (P : Register → Type 0) (rows : List Row) (a : Access) → ((why : Answer) → isDone why ≡ false → P (Refused why))
     → EachRow (λ at place. P (At at place)) 0 rows (P (lookUp 0 rows a))
 each-row P rows a refusal = each-number (λ n. P) rows a (λ at. 0) refusal

@@ -1,5 +1,7 @@
 -- Document 01, "Numbers that come back": those that a module gives. Assumes nothing.
 use Prim.Native.Nat.{ℕ}
+use mathlib.Core.Bool.{Bool, cond, _&&_, not}
+use lib.Dec.{eqb}
 use Rattle.bus.specs.declared.Reply.{Reply}
 use Rattle.bus.specs.declared.Answer.{Answer}
 use Rattle.bus.specs.declared.Answer.the-variants.{Done, NotInTable, WrongWidth, WrongDirection, NoMeaning, NothingStored, WordsStored, NotRandom, NoWords, TooFewFree, WrongMemory, NoChannel, Malformed}
@@ -38,3 +40,11 @@ valueOf Malformed = 0
 
 abbrev pub replyOf : Answer → Reply
 replyOf a = record { number = numberOf a; value = valueOf a }
+
+-- whether a call is done, and not refused
+abbrev pub isDone : Answer → Bool
+isDone answer = eqb (numberOf answer) 0
+
+-- of n pulses those that are admitted: "A pulse on an input is admitted if its call is not refused and the module is not inhibited"
+abbrev pub admitted : Answer → Bool → ℕ → ℕ
+admitted answer inhibited n = cond (isDone answer && not inhibited) n 0

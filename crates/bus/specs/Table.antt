@@ -45,3 +45,12 @@ lookUp at (r ∷ rs) a = cond (covers r (a .offset)) (reach at r a) (lookUp (suc
 abbrev pub byTable : {O : Type 0} → (Answer → O) → (ℕ → ℕ → O) → Register → O
 byTable refused performed (Refused why) = refused why
 byTable refused performed (At at place) = performed at place
+
+-- which number an access gets, line by line of document 01.
+-- 1: no row has the offset; 2: the row that has it does not take the width; 3: nor the direction; else what the row gives
+abbrev pub tableNumber : ℕ → List Row → Access → (ℕ → ℕ) → ℕ
+tableNumber at [] a given = 1
+tableNumber at (r ∷ rs) a given =
+    cond (covers r (a .offset))
+    (cond (takesWidth r (a .width)) (cond (takesDirection r (a .write)) (given at) 3) 2)
+    (tableNumber (suc at) rs a given)

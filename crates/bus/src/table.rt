@@ -1,6 +1,7 @@
 // A module's table of registers: a row for each, looked up at each access.
 ghost use mathlib.Core.Path.{_≡_};
 ghost use Prim.Native.Nat.{_≤_};
+ghost use mathlib.Core.Bool.{cond};
 ghost use Rattle.bus.specs.Table.{covers, takesWidth, takesDirection, lookUp, reach};
 use crate::Access;
 use crate::Answer;
@@ -81,17 +82,35 @@ fn reached(row: Row, at: usize, a: Access) -> Register
     Register::Refused(Answer::WrongWidth)
 }
 
+// What an access gets of a row if that has its offset, else what the rows behind it give.
+fn or_behind(row: Row, at: usize, a: Access, behind: Register) -> Register
+    ensures { λ r. ⌜ r ≡ cond (covers row (a .offset)) (reach at row a) behind ⌝ }
+{
+    if has_offset(row, a.offset) {
+        return reached(row, at, a);
+    }
+    behind
+}
+
 // The look-up of an access in a module's table.
 pub fn look_up(rows: [Row; 16], a: Access) -> Register
     ensures { λ r. ⌜ r ≡ lookUp 0 rows a ⌝ }
 {
-    let mut i: usize = 0;
-    while i < 16 {
-        let row = rows[i];
-        if has_offset(row, a.offset) {
-            return reached(row, i, a);
-        }
-        i += 1;
-    }
-    Register::Refused(Answer::NotInTable)
+    let behind = Register::Refused(Answer::NotInTable);
+    let behind = or_behind(rows[15], 15, a, behind);
+    let behind = or_behind(rows[14], 14, a, behind);
+    let behind = or_behind(rows[13], 13, a, behind);
+    let behind = or_behind(rows[12], 12, a, behind);
+    let behind = or_behind(rows[11], 11, a, behind);
+    let behind = or_behind(rows[10], 10, a, behind);
+    let behind = or_behind(rows[9], 9, a, behind);
+    let behind = or_behind(rows[8], 8, a, behind);
+    let behind = or_behind(rows[7], 7, a, behind);
+    let behind = or_behind(rows[6], 6, a, behind);
+    let behind = or_behind(rows[5], 5, a, behind);
+    let behind = or_behind(rows[4], 4, a, behind);
+    let behind = or_behind(rows[3], 3, a, behind);
+    let behind = or_behind(rows[2], 2, a, behind);
+    let behind = or_behind(rows[1], 1, a, behind);
+    or_behind(rows[0], 0, a, behind)
 }

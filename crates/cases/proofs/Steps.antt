@@ -8,6 +8,7 @@ use native.Mathlib.Omega.{arith}
 use lib.ListN.{length, getD, take, drop, replicate, drop-of-length-le, length-map}
 use lib.Seq.{drop-cons, getD-take}
 use borrow.Author.Tests.{eq-eqb, ne-eqb}
+use Rattle.meb.specs.Ring.{Memory, lent}
 use Rattle.cases.specs.declared.running.Bench.{Bench}
 use Rattle.cases.specs.declared.Line.{Line}
 use Rattle.cases.specs.declared.running.Turned.{Turned}
@@ -32,17 +33,17 @@ short-of k zero ls p = omega arith
 short-of k (suc many) [] p = omega arith
 short-of (suc k) (suc many) (l ∷ ls) p = let h = short-of k many ls (omega arith) in omega (arith, h)
 
-module _ (admitted many k : ℕ) (b : Bench) (memory : List ℕ) (ls : List Line) where
+module _ (pulses many k : ℕ) (b : Bench) (memory : Memory) (ls : List Line) where
   -- what the steps from k on give
   abbrev pub left : ℕ
-  left = wrongFrom (k + 1) admitted b memory (drop k (take many ls))
+  left = wrongFrom (k + 1) pulses b memory (drop k (take many ls))
 
   -- no step is left, and the pulses admitted are those expected, or not
-  pub all-right : length (take many ls) ≤ k → b .admitted ≡ admitted → left ≡ 0
+  pub all-right : length (take many ls) ≤ k → b .pulses ≡ pulses → left ≡ 0
   unfolding wrongFrom
   all-right h e = rw (drop-of-length-le (take many ls) {i = k} h, eq-eqb _ _ e)
 
-  pub not-admitted : length (take many ls) ≤ k → (b .admitted ≡ admitted → ⊥) → left ≡ k + 1
+  pub not-admitted : length (take many ls) ≤ k → (b .pulses ≡ pulses → ⊥) → left ≡ k + 1
   unfolding wrongFrom
   not-admitted h n = rw (drop-of-length-le (take many ls) {i = k} h, ne-eqb _ _ n)
 
@@ -59,8 +60,8 @@ module _ (admitted many k : ℕ) (b : Bench) (memory : List ℕ) (ls : List Line
     unfolding wrongFrom
     one-wrong w = rw (next, same ∙ w)
 
-    pub one-right : (m : List ℕ) → m ≡ memoryLeft b memory (getD ls k d .0) → isExpected (getD ls k d) (t .reply) ≡ true
-        → wrongFrom (k + 1 + 1) admitted (t .bench) m (drop (k + 1) (take many ls)) ≡ left
+    pub one-right : (m : List ℕ) → m ≡ memoryLeft b memory (getD ls k d .0) .words → isExpected (getD ls k d) (t .reply) ≡ true
+        → wrongFrom (k + 1 + 1) pulses (t .bench) (lent m) (drop (k + 1) (take many ls)) ≡ left
     unfolding wrongFrom
     one-right m f w = rw (next, same ∙ w, e, f, add-one (k + 1), add-one k)
 

@@ -23,14 +23,14 @@ reads first second third fourth fifth number value =
 
 -- a case, with no step behind its last
 abbrev pub case : ℕ → Which → List ℕ → List Line → ℕ → Case
-case line which start lines admitted =
+case line which start lines pulses =
     record {
       line = line;
       which = which;
       start = start ++ replicate (40 - length start) 0;
       lines = lines ++ replicate (10 - length lines) (reads 0 0 0 0 0 0 0);
       many = length lines;
-      admitted = admitted;
+      pulses = pulses;
     }
 
 -- "V560 joined, low FFFFFFFF, high 0: a pulse on input 1 gives low 0, high 1."

@@ -1,7 +1,7 @@
 -- What a case of document 01's "Reckoned by hand" is, and when it is right: each step is given to the module, and the answer's number and value are those that
 -- the case expects; at the end, so are the pulses admitted. Assumes nothing.
 use Prim.Native.Nat.{ℕ, suc, _+_, _%_, _^_}
-use mathlib.Core.Bool.{Bool, cond, _&&_, not}
+use mathlib.Core.Bool.{Bool, cond, _&&_}
 use mathlib.Core.List.{List, [], _∷_}
 use lib.Dec.{eqb}
 use lib.ListN.{take, replicate}
@@ -11,8 +11,10 @@ use Rattle.benchlog.specs.declared.Numeral.{Numeral}
 use Rattle.benchlog.specs.declared.Numeral.the-variants.{Value, Refused}
 use Rattle.benchlog.specs.Faults.{faultNumber}
 use Rattle.benchlog.specs.Number.{numberAt}
+use Rattle.bus.specs.declared.Answer.{Answer}
 use Rattle.bus.specs.declared.Reply.{Reply}
-use Rattle.bus.specs.Answers.{replyOf}
+use Rattle.bus.specs.Answers.{replyOf, admitted}
+use Rattle.meb.specs.Ring.{Memory, lent}
 use Rattle.modules.specs.declared.Held.{Held}
 use Rattle.modules.specs.declared.Which.{Which}
 use Rattle.modules.specs.declared.Which.the-variants as which
@@ -32,7 +34,7 @@ replyOfNumeral (Value value place) = record { number = 0; value = value }
 replyOfNumeral (Refused fault place) = record { number = faultNumber fault; value = 0 }
 
 -- the answer to a step
-abbrev pub replied : Bench → List ℕ → Step → Reply
+abbrev pub replied : Bench → Memory → Step → Reply
 replied b memory (Gives e) = replyOf (acted (b .held) memory e .answer)
 replied b memory (Reads first second third fourth fifth) =
     replyOfNumeral (numberAt (first ∷ second ∷ third ∷ fourth ∷ fifth ∷ []) 0)
@@ -54,21 +56,21 @@ pulsesIn (entry.Read offset width) = 0
 pulsesIn (entry.Write offset width word) = 0
 pulsesIn entry.ManClr = 0
 
--- "A pulse on an input is admitted if its call is not refused and the module is not inhibited"
-abbrev pub admittedBy : Bench → Entry → Reply → ℕ
-admittedBy b e reply = cond (eqb (reply .number) 0 && not (inhibits (b .held .which) (b .held))) (pulsesIn e) 0
+-- those of them that are admitted, where the module answers so
+abbrev pub admittedBy : Bench → Entry → Answer → ℕ
+admittedBy b e answer = admitted answer (inhibits (b .held .which) (b .held)) (pulsesIn e)
 
 -- the module, and the pulses admitted so far, after a step
-abbrev pub afterStep : Bench → List ℕ → Step → Bench
+abbrev pub afterStep : Bench → Memory → Step → Bench
 afterStep b memory (Gives e) =
     record {
       held = acted (b .held) memory e;
-      admitted = (b .admitted + admittedBy b e (replied b memory (Gives e))) % 2 ^ 32;
+      pulses = (b .pulses + admittedBy b e (acted (b .held) memory e .answer)) % 2 ^ 32;
     }
 afterStep b memory (Reads first second third fourth fifth) = b
 
 -- and the lent words
-abbrev pub memoryLeft : Bench → List ℕ → Step → List ℕ
+abbrev pub memoryLeft : Bench → Memory → Step → Memory
 memoryLeft b memory (Gives e) = memoryAfter (b .held) memory e
 memoryLeft b memory (Reads first second third fourth fifth) = memory
 
@@ -77,25 +79,25 @@ abbrev pub isExpected : Line → Reply → Bool
 isExpected l reply = eqb (reply .number) (l .1) && eqb (reply .value) (l .2)
 
 -- the answer, and the bench after the step
-abbrev pub turned : Bench → List ℕ → Step → Turned
+abbrev pub turned : Bench → Memory → Step → Turned
 turned b memory step = record { reply = replied b memory step; bench = afterStep b memory step }
 
 -- the number of the first step, from k on, whose answer is not the one expected, or the one after the last where the pulses admitted are not; 0 where all is right
-unfoldable pub wrongFrom : ℕ → ℕ → Bench → List ℕ → List Line → ℕ
-wrongFrom k admitted b memory [] = cond (eqb (b .admitted) admitted) 0 k
-wrongFrom k admitted b memory (l ∷ ls) =
+unfoldable pub wrongFrom : ℕ → ℕ → Bench → Memory → List Line → ℕ
+wrongFrom k pulses b memory [] = cond (eqb (b .pulses) pulses) 0 k
+wrongFrom k pulses b memory (l ∷ ls) =
     cond (isExpected l (replied b memory (l .0)))
-    (wrongFrom (suc k) admitted (afterStep b memory (l .0)) (memoryLeft b memory (l .0)) ls)
+    (wrongFrom (suc k) pulses (afterStep b memory (l .0)) (memoryLeft b memory (l .0)) ls)
     k
 
 -- that of a case, with this memory lent
-abbrev pub wrongWith : Case → List ℕ → ℕ
+abbrev pub wrongWith : Case → Memory → ℕ
 wrongWith c memory =
-    wrongFrom 1 (c .admitted) (record { held = begunOf (c .which) (c .start) memory; admitted = 0 }) memory (take (c .many) (c .lines))
+    wrongFrom 1 (c .pulses) (record { held = begunOf (c .which) (c .start) memory; pulses = 0 }) memory (take (c .many) (c .lines))
 
 -- with a memory of zeros, of so many words as the case says
 abbrev pub wrongIn : Case → ℕ
-wrongIn c = wrongWith c (replicate (lentOf (c .which) (c .start) 66) 0)
+wrongIn c = wrongWith c (lent (replicate (lentOf (c .which) (c .start) 66) 0))
 
 -- the numbers of the cases that are wrong
 abbrev pub wrongCases : ℕ → List Case → List ℕ

@@ -23,7 +23,7 @@ pub(crate) struct Case {
     pub(crate) start: [u32; 40],
     pub(crate) lines: [Line; 10],
     pub(crate) many: usize,
-    pub(crate) admitted: u32,
+    pub(crate) pulses: u32,
 }
 
 // Puts the line of a case.

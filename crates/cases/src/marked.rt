@@ -36,7 +36,7 @@ fn joined_section() -> Case
         start,
         lines,
         many: 3,
-        admitted: 1,
+        pulses: 1,
     }
 }
 
@@ -66,7 +66,7 @@ fn joined_channels() -> Case
         start,
         lines,
         many: 4,
-        admitted: 1,
+        pulses: 1,
     }
 }
 
@@ -95,7 +95,7 @@ fn count_reads() -> Case
         start,
         lines,
         many: 3,
-        admitted: 0,
+        pulses: 0,
     }
 }
 
@@ -125,7 +125,7 @@ fn long_format() -> Case
         start,
         lines,
         many: 8,
-        admitted: 16,
+        pulses: 16,
     }
 }
 
@@ -155,7 +155,7 @@ fn short_format() -> Case
         start,
         lines,
         many: 8,
-        admitted: 16,
+        pulses: 16,
     }
 }
 
@@ -184,7 +184,7 @@ fn takes_one() -> Case
         start,
         lines,
         many: 4,
-        admitted: 0,
+        pulses: 0,
     }
 }
 
@@ -213,7 +213,7 @@ fn takes_two() -> Case
         start,
         lines,
         many: 4,
-        admitted: 0,
+        pulses: 0,
     }
 }
 
@@ -242,7 +242,7 @@ fn one_word() -> Case
         start,
         lines,
         many: 9,
-        admitted: 9,
+        pulses: 9,
     }
 }
 
@@ -271,7 +271,7 @@ fn log_numbers() -> Case
         start,
         lines,
         many: 3,
-        admitted: 0,
+        pulses: 0,
     }
 }
 

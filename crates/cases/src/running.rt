@@ -1,6 +1,7 @@
 // How a case is run: each step is given to the module or to the log reader, and the answer compared.
 ghost use mathlib.Core.Path.{_≡_};
 ghost use Rattle.benchlog.specs.Number.{numberAt};
+ghost use Rattle.meb.specs.Ring.{lent};
 ghost use Rattle.cases.specs.Running.{replyOfNumeral, inhibits, pulsesIn, admittedBy, turned, memoryLeft, isExpected, wrongWith, wrongIn};
 ghost use Rattle.cases.specs.declared.Step.the-variants.{Gives, Reads};
 use crate::Case;
@@ -8,6 +9,7 @@ use crate::Line;
 use crate::Step;
 use benchlog::Entry;
 use benchlog::Numeral;
+use bus::Answer;
 use bus::Reply;
 use modules::Held;
 use modules::Which;
@@ -15,7 +17,7 @@ use modules::Which;
 // The module, and the pulses admitted to it.
 struct Bench {
     held: Held,
-    admitted: u32,
+    pulses: u32,
 }
 
 // What a step gives: the answer, and the bench after it.
@@ -69,10 +71,11 @@ fn pulses_in(entry: Entry) -> u32
 }
 
 // Those of them that are admitted.
-fn admitted_by(b: Bench, entry: Entry, reply: Reply) -> u32
-    ensures { λ r. ⌜ r ≡ admittedBy b entry reply ⌝ }
+fn admitted_by(b: Bench, entry: Entry, answer: Answer) -> u32
+    ensures { λ r. ⌜ r ≡ admittedBy b entry answer ⌝ }
 {
     let held = b.held;
+    let reply = bus::numbered(answer);
     if reply.number == 0 && !is_inhibited(held) {
         pulses_in(entry)
     } else {
@@ -82,20 +85,20 @@ fn admitted_by(b: Bench, entry: Entry, reply: Reply) -> u32
 
 // An entry given to the module.
 fn give(b: Bench, memory: &mut [u32], entry: Entry) -> Turned
-    ensures { λ r. ⌜ (r ≡ turned b (now (memory .entry)) (Gives entry)) × (now (memory .exit) ≡ memoryLeft b (now (memory .entry)) (Gives entry)) ⌝ }
+    ensures { λ r. ⌜ (r ≡ turned b (lent (now (memory .entry))) (Gives entry)) × (now (memory .exit) ≡ memoryLeft b (lent (now (memory .entry))) (Gives entry) .words) ⌝ }
 {
     let before = b.held;
     let held = modules::act(before, memory, entry);
     let answer = held.answer;
     let reply = bus::numbered(answer);
-    let admitted = std::num::wrapping_add_u32(b.admitted, admitted_by(b, entry, reply));
-    let bench = Bench { held, admitted };
+    let pulses = std::num::wrapping_add_u32(b.pulses, admitted_by(b, entry, answer));
+    let bench = Bench { held, pulses };
     Turned { reply, bench }
 }
 
 // A step of a case.
 fn turn(b: Bench, memory: &mut [u32], step: Step) -> Turned
-    ensures { λ r. ⌜ (r ≡ turned b (now (memory .entry)) step) × (now (memory .exit) ≡ memoryLeft b (now (memory .entry)) step) ⌝ }
+    ensures { λ r. ⌜ (r ≡ turned b (lent (now (memory .entry))) step) × (now (memory .exit) ≡ memoryLeft b (lent (now (memory .entry))) step .words) ⌝ }
 {
     match step {
         Step::Gives(entry) => give(b, memory, entry),
@@ -116,13 +119,13 @@ fn is_expected(line: Line, reply: Reply) -> bool
 
 // The number of the first step that is wrong, 0 if none, with this memory lent.
 fn first_wrong(c: Case, memory: &mut [u32]) -> usize
-    ensures { λ r. ⌜ r ≡ wrongWith c (now (memory .entry)) ⌝ }
+    ensures { λ r. ⌜ r ≡ wrongWith c (lent (now (memory .entry))) ⌝ }
 {
     let start = c.start;
     let lines = c.lines;
     let which = c.which;
     let held = modules::begin(which, start, memory);
-    let mut b = Bench { held, admitted: 0 };
+    let mut b = Bench { held, pulses: 0 };
     let mut k: usize = 0;
     while k < c.many && k < 10 {
         let line = lines[k];
@@ -135,7 +138,7 @@ fn first_wrong(c: Case, memory: &mut [u32]) -> usize
         b = t.bench;
         k += 1;
     }
-    if b.admitted == c.admitted { 0 } else { k + 1 }
+    if b.pulses == c.pulses { 0 } else { k + 1 }
 }
 
 // The number of the first step of a case that is wrong, 0 if none.

@@ -2,9 +2,9 @@
 use mathlib.Core.Path.{_≡_, refl, sym, ap, _∙_}
 use mathlib.Core.Bool.{Bool, true, false, cond, _&&_, false≢true}
 use mathlib.Core.List.{List}
-use Prim.Native.Nat.{ℕ, _/_, _%_, _^_, _≤_}
+use Prim.Native.Nat.{ℕ, _/_, _%_, _^_, _≤_, _<_}
 use native.Mathlib.Omega.{arith}
-use borrow.Author.Tests.{eqb-true, eqb-false, ltb-false, leb-true, eq-eqb, ne-eqb, le-leb, le-ltb}
+use borrow.Author.Tests.{eqb-true, ltb-true, leb-true, eq-eqb, le-leb}
 use lib.Count.{onesIn}
 use lib.Dec.{eqb, ltb, leb}
 use lib.ListN.{length, getD, drop}
@@ -13,25 +13,26 @@ use Rattle.layout.specs.declared.Answer.the-variants.{NoWords, WordsEnd,
 use Rattle.layout.specs.declared.Event.{Event}
 use Rattle.layout.specs.declared.Settings.{Settings}
 use Rattle.layout.specs.Length.{eventLength, headerLength, enabledChannels}
-use Rattle.layout.specs.Numbers.{done, isDone}
+use Rattle.layout.specs.Numbers.{givesLength, noRefusal}
 use Rattle.layout.specs.Reader.{headerAnswer, dataAnswer, bodyAnswer, readAnswer}
 use Rattle.layout.specs.Writer.{fieldsFit, fieldsZero, countsFit, writable, writeAnswer}
+use Rattle.layout.proofs.Lengths.{some}
 
--- of a test with a refusal on one side, the other side was taken
-pub if-not : (t : Bool) (x y : Answer) → isDone x ≡ false → isDone (cond t x y) ≡ true → (t ≡ false) × (isDone y ≡ true)
-if-not true x y r d = absurd (false≢true (sym r ∙ d))
-if-not false x y r d = (refl, d)
-
-pub if-so : (t : Bool) (x y : Answer) → isDone y ≡ false → isDone (cond t x y) ≡ true → (t ≡ true) × (isDone x ≡ true)
+-- of a link of a chain that refuses nothing, the condition holds
+pub if-so : (t : Bool) (x y : Answer) → noRefusal y ≡ false → noRefusal (cond t x y) ≡ true → (t ≡ true) × (noRefusal x ≡ true)
 if-so true x y r d = (refl, d)
 if-so false x y r d = absurd (false≢true (sym r ∙ d))
+
+-- what has words has not 0
+lt-ne : {n : ℕ} → 0 < n → n ≡ 0 → ⊥
+lt-ne h e = omega arith
 
 -- ---- the reader
 -- a header that is right: bit 26 one, bits 25 and 24 zero, the number of enabled channels
 abbrev pub GoodHeader : Settings → ℕ → Type 0
 GoodHeader st h = (h / 2 ^ 26 % 2 ≡ 1) × (h / 2 ^ 24 % 4 ≡ 0) × (h / 2 ^ 18 % 64 ≡ onesIn 32 (st .enable))
 
-header-done : (st : Settings) (h : ℕ) (rest : Answer) → isDone (headerAnswer st h rest) ≡ true → GoodHeader st h × (isDone rest ≡ true)
+header-done : (st : Settings) (h : ℕ) (rest : Answer) → noRefusal (headerAnswer st h rest) ≡ true → GoodHeader st h × (noRefusal rest ≡ true)
 header-done st h rest d =
     let n : ℕ = h / 2 ^ 18 % 64 in
     let a = if-so (eqb (h / 2 ^ 26 % 2) 1) _ NotAHeader refl d in
@@ -41,40 +42,40 @@ header-done st h rest d =
     ((eqb-true _ _ (a .0), eqb-true _ _ (b .0), eqb-true _ _ (f .0)), f .1)
 
 -- the words reach to the event's end, and in the short format the data are right
-pub body-done : (st : Settings) (ws : List ℕ) → isDone (bodyAnswer st ws) ≡ true
-    → (eventLength st ≤ length ws) × (isDone (cond (st .short) (dataAnswer (enabledChannels (st .enable)) (drop (headerLength st) ws) (done st)) (done st)) ≡ true)
+pub body-done : (st : Settings) (ws : List ℕ) → noRefusal (bodyAnswer st ws) ≡ true
+    → (eventLength st ≤ length ws) × (noRefusal (cond (st .short) (dataAnswer (enabledChannels (st .enable)) (drop (headerLength st) ws) (givesLength st)) (givesLength st)) ≡ true)
 unfolding bodyAnswer
-body-done st ws d = let a = if-not (ltb (length ws) (eventLength st)) WordsEnd _ refl d in (ltb-false _ _ (a .0), a .1)
+body-done st ws d = let a = if-so (leb (eventLength st) (length ws)) _ WordsEnd refl d in (leb-true _ _ (a .0), a .1)
 
 -- the event has words, its header, where it has one, is right, and so is what is behind it
-pub read-done : (st : Settings) (ws : List ℕ) → isDone (readAnswer st ws) ≡ true
-    → (eventLength st ≡ 0 → ⊥) × (st .header ≡ true → GoodHeader st (getD ws 0 0)) × (isDone (bodyAnswer st ws) ≡ true)
+pub read-done : (st : Settings) (ws : List ℕ) → noRefusal (readAnswer st ws) ≡ true
+    → (eventLength st ≡ 0 → ⊥) × (st .header ≡ true → GoodHeader st (getD ws 0 0)) × (noRefusal (bodyAnswer st ws) ≡ true)
 unfolding readAnswer
 read-done st ws d =
-    let a = if-not (eqb (eventLength st) 0) NoWords _ refl d in
-    let b = if-not (eqb (length ws) 0) WordsEnd _ refl (a .1) in
+    let a = if-so (ltb 0 (eventLength st)) _ NoWords refl d in
+    let b = if-so (ltb 0 (length ws)) _ WordsEnd refl (a .1) in
     let e = go (st .header) (b .1) in
-    (eqb-false _ _ (a .0), e .0, e .1)
+    (lt-ne (ltb-true _ _ (a .0)), e .0, e .1)
   where
-    go : (t : Bool) → isDone (cond t (headerAnswer st (getD ws 0 0) (bodyAnswer st ws)) (bodyAnswer st ws)) ≡ true
-        → (t ≡ true → GoodHeader st (getD ws 0 0)) × (isDone (bodyAnswer st ws) ≡ true)
+    go : (t : Bool) → noRefusal (cond t (headerAnswer st (getD ws 0 0) (bodyAnswer st ws)) (bodyAnswer st ws)) ≡ true
+        → (t ≡ true → GoodHeader st (getD ws 0 0)) × (noRefusal (bodyAnswer st ws) ≡ true)
     go true d = let g = header-done st (getD ws 0 0) (bodyAnswer st ws) d in ((λ t. g .0), g .1)
     go false d = ((λ t. absurd (false≢true t)), d)
 
 -- and the other way round: with nothing wrong, the reader is done
 pub reads-done : (st : Settings) (ws : List ℕ) → onesIn 32 (st .enable) ≤ 32 → (eventLength st ≡ 0 → ⊥) → eventLength st ≤ length ws
     → (st .header ≡ true → GoodHeader st (getD ws 0 0))
-    → (st .short ≡ true → dataAnswer (enabledChannels (st .enable)) (drop (headerLength st) ws) (done st) ≡ done st)
-    → readAnswer st ws ≡ done st
+    → (st .short ≡ true → dataAnswer (enabledChannels (st .enable)) (drop (headerLength st) ws) (givesLength st) ≡ givesLength st)
+    → readAnswer st ws ≡ givesLength st
 unfolding readAnswer bodyAnswer
-reads-done st ws o s l g e = rw (ne-eqb _ _ s, ne-eqb (length ws) 0 (λ z. s (omega arith)), le-ltb (length ws) (eventLength st) l) (headed (st .header) g (shorter (st .short) e))
+reads-done st ws o s l g e = rw (some _ s, some (length ws) (λ z. s (omega arith)), le-leb (eventLength st) (length ws) l) (headed (st .header) g (shorter (st .short) e))
   where
-    shorter : (t : Bool) → (t ≡ true → dataAnswer (enabledChannels (st .enable)) (drop (headerLength st) ws) (done st) ≡ done st)
-        → cond t (dataAnswer (enabledChannels (st .enable)) (drop (headerLength st) ws) (done st)) (done st) ≡ done st
+    shorter : (t : Bool) → (t ≡ true → dataAnswer (enabledChannels (st .enable)) (drop (headerLength st) ws) (givesLength st) ≡ givesLength st)
+        → cond t (dataAnswer (enabledChannels (st .enable)) (drop (headerLength st) ws) (givesLength st)) (givesLength st) ≡ givesLength st
     shorter true f = f refl
     shorter false f = refl
 
-    headed : (t : Bool) {a : Answer} → (t ≡ true → GoodHeader st (getD ws 0 0)) → a ≡ done st → cond t (headerAnswer st (getD ws 0 0) a) a ≡ done st
+    headed : (t : Bool) {a : Answer} → (t ≡ true → GoodHeader st (getD ws 0 0)) → a ≡ givesLength st → cond t (headerAnswer st (getD ws 0 0) a) a ≡ givesLength st
     headed true f q = let h = f refl in rw (eq-eqb _ _ (h .0), eq-eqb _ _ (h .1), le-leb (getD ws 0 0 / 2 ^ 18 % 64) 32 (omega (arith, h .2)), eq-eqb _ _ (h .2)) q
     headed false f q = q
 
@@ -82,9 +83,9 @@ reads-done st ws o s l g e = rw (ne-eqb _ _ s, ne-eqb (length ws) 0 (λ z. s (om
 module _ (st : Settings) (ws : List ℕ) (s : eventLength st ≡ 0 → ⊥) (l : length ws ≡ 0 → ⊥) where
   pub read-by-header : (t : Bool) → st .header ≡ t → readAnswer st ws ≡ cond t (headerAnswer st (getD ws 0 0) (bodyAnswer st ws)) (bodyAnswer st ws)
   unfolding readAnswer
-  read-by-header t h = rw (ne-eqb _ _ s, ne-eqb _ _ l) (ap (λ (u : Bool). cond u (headerAnswer st (getD ws 0 0) (bodyAnswer st ws)) (bodyAnswer st ws)) h)
+  read-by-header t h = rw (some _ s, some _ l) (ap (λ (u : Bool). cond u (headerAnswer st (getD ws 0 0) (bodyAnswer st ws)) (bodyAnswer st ws)) h)
 
-pub done-fits : (st : Settings) (ws : List ℕ) → isDone (readAnswer st ws) ≡ true → eventLength st ≤ length ws
+pub done-fits : (st : Settings) (ws : List ℕ) → noRefusal (readAnswer st ws) ≡ true → eventLength st ≤ length ws
 done-fits st ws d = body-done st ws (read-done st ws d .2) .0
 
 -- ---- the writer
@@ -112,11 +113,11 @@ unfolding writable
 writable-parts st ev e = three (fieldsFit ev) (cond (st .header) true (fieldsZero ev)) _ e
 
 -- what an answer without refusal says: the event has words, can be written, and has room
-pub write-done : (st : Settings) (ev : Event) (lent : List ℕ) → isDone (writeAnswer st ev lent) ≡ true
+pub write-done : (st : Settings) (ev : Event) (lent : List ℕ) → noRefusal (writeAnswer st ev lent) ≡ true
     → (eventLength st ≡ 0 → ⊥) × (writable st ev ≡ true) × (eventLength st ≤ length lent)
 unfolding writeAnswer
 write-done st ev lent d =
-    let a = if-not (eqb (eventLength st) 0) NoWords _ refl d in
+    let a = if-so (ltb 0 (eventLength st)) _ NoWords refl d in
     let b = if-so (writable st ev) _ NotAnEvent refl (a .1) in
-    let e = if-not (ltb (length lent) (eventLength st)) TooFewLent _ refl (b .1) in
-    (eqb-false _ _ (a .0), b .0, ltb-false _ _ (e .0))
+    let e = if-so (leb (eventLength st) (length lent)) _ TooFewLent refl (b .1) in
+    (lt-ne (ltb-true _ _ (a .0)), b .0, leb-true _ _ (e .0))

@@ -10,7 +10,7 @@ use lib.Seq.{drop-cons}
 use Rattle.layout.specs.declared.Answer.{Answer}
 use Rattle.layout.specs.declared.Answer.the-variants.{DatumWithBit26, AnotherChannel}
 use Rattle.layout.specs.Length.{enabledChannels}
-use Rattle.layout.specs.Reader.{dataAnswer, countIn, countsIn}
+use Rattle.layout.specs.Reader.{dataAnswer, countIn, countsRead}
 use Rattle.layout.specs.Writer.{countFits, countsFit}
 use Rattle.layout.proofs.Turns.{Left, left-turn, left-step, left-over}
 
@@ -35,14 +35,14 @@ module _ (rest : Answer) {whole : Answer} {ws : List ℕ} {at left : ℕ} (e : L
   data-over z = left-over e z
 
 -- ---- the counts: one more at its channel
-module _ (short : Bool) (counts : List ℕ) {whole ws : List ℕ} {at left : ℕ} (e : Left (λ ks us. countsIn short ks us counts) whole ws at left) where
+module _ (short : Bool) (counts : List ℕ) {whole ws : List ℕ} {at left : ℕ} (e : Left (λ ks us. countsRead short ks us counts) whole ws at left) where
   pub counts-next : (k after : ℕ) → enabledChannels left ≡ k ∷ enabledChannels after
-      → Left (λ ks us. countsIn short ks us (set counts k (countIn short (getD ws at 0)))) whole ws (at + 1) after
-  unfolding countsIn
+      → Left (λ ks us. countsRead short ks us (set counts k (countIn short (getD ws at 0)))) whole ws (at + 1) after
+  unfolding countsRead
   counts-next k after n = left-step e k after n _ (left-turn e k after n)
 
   pub counts-over : left ≡ 0 → counts ≡ whole
-  unfolding countsIn
+  unfolding countsRead
   counts-over z = left-over e z
 
 -- ---- whether the counts from k on fit: this one, and those behind it

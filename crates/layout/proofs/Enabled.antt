@@ -1,5 +1,5 @@
 -- Laws of the enabled channels: how many they are, and the next of them, by the zeros below the mask's lowest one. Assumes nothing.
-use mathlib.Core.Path.{_≡_, refl, sym, ap, _∙_}
+use mathlib.Core.Path.{_≡_, refl, ap, _∙_}
 use mathlib.Core.List.{List, [], _∷_}
 use Prim.Native.Nat.{ℕ, zero, suc, _+_, _-_, _*_, _/_, _%_, _^_, _≤_, _<_}
 use native.Mathlib.Nat.{add-suc, suc-add, add-zero, pow-suc, zero-add, one-mul}
@@ -8,19 +8,19 @@ use lib.Arith.{lt-one}
 use lib.Count.{onesIn, ones, ones-step, trailingZeros, under}
 use lib.ListN.{length}
 use lib.Pow.{pow-pos, shl-exact}
-use Rattle.layout.specs.Length.{put, enabledFrom, enabledChannels}
+use Rattle.layout.specs.Length.{channelIf, enabledFrom, enabledChannels}
 
-length-put : (b k : ℕ) (ks : List ℕ) → b < 2 → length (put b k ks) ≡ b + length ks
-length-put zero k ks h = omega arith
-length-put (suc zero) k ks h = omega arith
-length-put (suc (suc b)) k ks h = absurd (omega arith)
+length-channel-if : (b k : ℕ) (ks : List ℕ) → b < 2 → length (channelIf b k ks) ≡ b + length ks
+length-channel-if zero k ks h = omega arith
+length-channel-if (suc zero) k ks h = omega arith
+length-channel-if (suc (suc b)) k ks h = absurd (omega arith)
 
 -- they are as many as the mask has ones
 pub length-enabled : (d k m : ℕ) → length (enabledFrom d k m) ≡ onesIn d m
 unfolding enabledFrom onesIn
 length-enabled zero k m = refl
 length-enabled (suc d) k m =
-    length-put (m % 2) k (enabledFrom d (suc k) (m / 2)) (omega arith) ∙ ap (λ (n : ℕ). m % 2 + n) (length-enabled d (suc k) (m / 2))
+    length-channel-if (m % 2) k (enabledFrom d (suc k) (m / 2)) (omega arith) ∙ ap (λ (n : ℕ). m % 2 + n) (length-enabled d (suc k) (m / 2))
 
 -- d bits have at most d ones
 pub ones-in-le : (d m : ℕ) → onesIn d m ≤ d
@@ -62,7 +62,7 @@ enabled-next (suc d) k m p h = go (m % 2) refl (λ q. enabled-next d (suc k) (m 
   where
     go : (b : ℕ) → m % 2 ≡ b → (0 < m / 2 → NextIs d (suc k) (m / 2) (trailingZeros d (m / 2)))
         → (under b (trailingZeros d (m / 2)) < suc d) × (2 ^ under b (trailingZeros d (m / 2)) ≤ m)
-        × (put b k (enabledFrom d (suc k) (m / 2)) ≡ (k + under b (trailingZeros d (m / 2))) ∷ enabledFrom (suc d) k (m - 2 ^ under b (trailingZeros d (m / 2))))
+        × (channelIf b k (enabledFrom d (suc k) (m / 2)) ≡ (k + under b (trailingZeros d (m / 2))) ∷ enabledFrom (suc d) k (m - 2 ^ under b (trailingZeros d (m / 2))))
     go zero e ih =
         let t : ℕ = trailingZeros d (m / 2) in
         let n = ih (omega arith) in

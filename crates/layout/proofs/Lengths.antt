@@ -4,13 +4,20 @@ use mathlib.Core.Bool.{Bool, true, false, cond, not, _||_}
 use Prim.Native.Nat.{ℕ, zero, suc, _+_, _/_, _%_, _^_, _<_}
 use native.Mathlib.Nat.{div-add-mod', mul-suc}
 use native.Mathlib.Omega.{arith}
-use borrow.Author.Tests.{ne-eqb}
+use borrow.Author.Tests.{ne-eqb, lt-ltb, le-ltb}
 use lib.Count.{onesIn}
-use lib.Dec.{eqb}
+use lib.Dec.{eqb, ltb}
 use Rattle.layout.specs.declared.Settings.{Settings}
 use Rattle.layout.specs.declared.Words.{Words}
 use Rattle.layout.specs.Length.{words, eventLength}
 use Rattle.layout.proofs.Enabled.{ones-of-zero, only-zero}
+
+-- the test whether a length is 0, of the definitions' form
+pub none : (n : ℕ) → n ≡ 0 → ltb 0 n ≡ false
+none n e = le-ltb 0 n (omega arith)
+
+pub some : (n : ℕ) → (n ≡ 0 → ⊥) → ltb 0 n ≡ true
+some n s = lt-ltb 0 n (omega (arith, s))
 
 pub length-of : (st : Settings) {w : Words} → w ≡ words (eventLength st) → eventLength st ≡ w .0
 length-of st e = sym (ap (λ (v : Words). v .0) e)

@@ -1,6 +1,7 @@
 pub mod Answers
 pub mod Data
 pub mod Enabled
+pub mod ExactNumbers
 pub mod Halves
 pub mod Lengths
 pub mod NoFurther

@@ -16,9 +16,9 @@ use Rattle.layout.proofs.Enabled.{ones-in-le}
 use Rattle.layout.specs.declared.Event.{Event}
 use Rattle.layout.specs.declared.Settings.{Settings}
 use Rattle.layout.specs.Layout.{headerOf, datumOf, dataOf, eventWords}
-use Rattle.layout.specs.Length.{put, eventLength, headerLength, enabledChannels}
-use Rattle.layout.specs.Numbers.{done, isDone}
-use Rattle.layout.specs.Reader.{dataAnswer, readAnswer, countIn, countsIn, eventIn, readOf}
+use Rattle.layout.specs.Length.{channelIf, eventLength, headerLength, enabledChannels}
+use Rattle.layout.specs.Numbers.{givesLength, noRefusal}
+use Rattle.layout.specs.Reader.{dataAnswer, readAnswer, countIn, countsRead, eventIn, readOf}
 use Rattle.layout.specs.Writer.{countFits, countsFit, writable, writeAnswer, writeWords}
 use Rattle.layout.proofs.Answers.{GoodHeader, both, fields-fit, fields-zero, writable-parts, write-done, reads-done}
 use Rattle.layout.proofs.Halves.{settings, dataFrom, countFirst, countsFrom, data-from, counts-from}
@@ -50,13 +50,13 @@ counts-again short k m (c ∷ cs) rest f =
     go (m % 2) (p .0) (counts-again short (suc k) (m / 2) cs rest (p .1))
   where
     go : (b : ℕ) → countFits short b c ≡ true → countsFrom (length cs) short (m / 2) (dataFrom short (suc k) (m / 2) cs ++ rest) ≡ cs
-        → countFirst b short (countsFrom (length cs) short (m / 2)) (put b (datumOf short k c) (dataFrom short (suc k) (m / 2) cs) ++ rest) ≡ c ∷ cs
+        → countFirst b short (countsFrom (length cs) short (m / 2)) (channelIf b (datumOf short k c) (dataFrom short (suc k) (m / 2) cs) ++ rest) ≡ c ∷ cs
     go zero g ih = ap₂ (λ (x : ℕ) (xs : List ℕ). x ∷ xs) (zero-again short c g) ih
     go (suc b) g ih = ap₂ (λ (x : ℕ) (xs : List ℕ). x ∷ xs) (count-again short b k c g) ih
 
 -- the counts, over the list of the enabled channels
 body-again : (short : Bool) (x : ℕ) (cs rest : List ℕ) → length cs ≡ 32 → countsFit short x cs ≡ true
-    → countsIn short (enabledChannels x) (dataOf short cs (enabledChannels x) ++ rest) (replicate 32 0) ≡ cs
+    → countsRead short (enabledChannels x) (dataOf short cs (enabledChannels x) ++ rest) (replicate 32 0) ≡ cs
 body-again short x cs rest l f =
     let n = length-append (dataOf short cs (enabledChannels x)) rest in
     let m = length-map (enabledChannels x) (λ k. datumOf short k (getD cs k 0)) in
@@ -91,23 +91,23 @@ short-again true x cs rest d e = data-answered cs (enabledChannels x) rest d
 short-again false x cs rest d e = absurd (false≢true e)
 
 answer-again : (header short : Bool) (x : ℕ) (ev : Event) (rest : List ℕ) → x < 2 ^ 32 → (eventLength (settings header short x) ≡ 0 → ⊥)
-    → writable (settings header short x) ev ≡ true → readAnswer (settings header short x) (eventWords (settings header short x) ev ++ rest) ≡ done (settings header short x)
+    → writable (settings header short x) ev ≡ true → readAnswer (settings header short x) (eventWords (settings header short x) ev ++ rest) ≡ givesLength (settings header short x)
 answer-again header short x ev rest h s w =
     let st : Settings = settings header short x in
     let n = length-append (eventWords st ev) rest in
-    reads-done st (eventWords st ev ++ rest) (ones-in-le 32 x) s (omega (arith, n, words-length st ev h)) (first header w) (behind header)
+    reads-done st (eventWords st ev ++ rest) (ones-in-le 32 x) s (omega (arith, n, words-length st ev)) (first header w) (behind header)
   where
     first : (t : Bool) → writable (settings t short x) ev ≡ true → t ≡ true → GoodHeader (settings t short x) (getD (eventWords (settings t short x) ev ++ rest) 0 0)
     first true v e = header-good (settings true short x) ev (ones-in-le 32 x) (fields-fit ev (writable-parts (settings true short x) ev v .0))
     first false v e = absurd (false≢true e)
 
     behind : (t : Bool) → short ≡ true
-        → dataAnswer (enabledChannels x) (drop (headerLength (settings t short x)) (eventWords (settings t short x) ev ++ rest)) (done (settings t short x)) ≡ done (settings t short x)
-    behind true e = short-again short x (ev .counts) rest (done (settings true short x)) e
-    behind false e = short-again short x (ev .counts) rest (done (settings false short x)) e
+        → dataAnswer (enabledChannels x) (drop (headerLength (settings t short x)) (eventWords (settings t short x) ev ++ rest)) (givesLength (settings t short x)) ≡ givesLength (settings t short x)
+    behind true e = short-again short x (ev .counts) rest (givesLength (settings true short x)) e
+    behind false e = short-again short x (ev .counts) rest (givesLength (settings false short x)) e
 
 -- ---- the theorem
-pub written-reads-back : (st : Settings) (ev : Event) (lent : List ℕ) → st .enable < 2 ^ 32 → length (ev .counts) ≡ 32 → isDone (writeAnswer st ev lent) ≡ true
+pub written-reads-back : (st : Settings) (ev : Event) (lent : List ℕ) → st .enable < 2 ^ 32 → length (ev .counts) ≡ 32 → noRefusal (writeAnswer st ev lent) ≡ true
     → readOf st (writeWords st ev lent) ≡ record { answer = writeAnswer st ev lent; event = ev }
 unfolding readOf
 written-reads-back st ev lent h l d =

@@ -1,5 +1,5 @@
 -- A refusal: the writer leaves every lent word as it was, the reader gives an event whose fields are all 0, and either one's number comes with the value 0. That
--- each number has its exact condition is what the definitions say, one test after the other in document 01's order. Assumes nothing.
+-- each number is given exactly when its line of document 01's table holds and no earlier one does is proved in ExactNumbers. Assumes nothing.
 use mathlib.Core.Path.{_≡_, refl, sym}
 use mathlib.Core.Bool.{true, false, false≢true}
 use mathlib.Core.List.{List}
@@ -8,19 +8,19 @@ use Rattle.layout.specs.declared.Answer.{Answer}
 use Rattle.layout.specs.declared.Answer.the-variants.{Done, NoWords, WordsEnd, NotAHeader, CountAbove32, DatumWithBit26, AnotherChannel, AnotherCount, Bits25And24, TooFewLent, NotAnEvent}
 use Rattle.layout.specs.declared.Event.{Event}
 use Rattle.layout.specs.declared.Settings.{Settings}
-use Rattle.layout.specs.Numbers.{isDone, valueOf}
+use Rattle.layout.specs.Numbers.{noRefusal, valueOf}
 use Rattle.layout.specs.Reader.{noEvent, readAnswer, readOf}
 use Rattle.layout.specs.Writer.{writeAnswer, writeWords}
 
-pub refused-leaves : (st : Settings) (ev : Event) (lent : List ℕ) → isDone (writeAnswer st ev lent) ≡ false → writeWords st ev lent ≡ lent
+pub refused-leaves : (st : Settings) (ev : Event) (lent : List ℕ) → noRefusal (writeAnswer st ev lent) ≡ false → writeWords st ev lent ≡ lent
 unfolding writeWords
 refused-leaves st ev lent r = rw r
 
-pub refused-reads-nothing : (st : Settings) (ws : List ℕ) → isDone (readAnswer st ws) ≡ false → readOf st ws .event ≡ noEvent
+pub refused-reads-nothing : (st : Settings) (ws : List ℕ) → noRefusal (readAnswer st ws) ≡ false → readOf st ws .event ≡ noEvent
 unfolding readOf
 refused-reads-nothing st ws r = rw r
 
-pub refused-value : (a : Answer) → isDone a ≡ false → valueOf a ≡ 0
+pub refused-value : (a : Answer) → noRefusal a ≡ false → valueOf a ≡ 0
 refused-value (Done w) r = absurd (false≢true (sym r))
 refused-value NoWords r = refl
 refused-value WordsEnd r = refl

@@ -18,9 +18,9 @@ use Rattle.layout.specs.declared.Answer.{Answer}
 use Rattle.layout.specs.declared.Answer.the-variants.{DatumWithBit26, AnotherChannel}
 use Rattle.layout.specs.declared.Settings.{Settings}
 use Rattle.layout.specs.Layout.{datumOf, dataOf, eventWords}
-use Rattle.layout.specs.Length.{put, eventLength, headerLength, enabledFrom, enabledChannels}
-use Rattle.layout.specs.Numbers.{done, isDone}
-use Rattle.layout.specs.Reader.{datumAnswer, dataAnswer, readAnswer, countIn, countsIn, eventIn, readOf}
+use Rattle.layout.specs.Length.{channelIf, eventLength, headerLength, enabledFrom, enabledChannels}
+use Rattle.layout.specs.Numbers.{givesLength, noRefusal}
+use Rattle.layout.specs.Reader.{datumAnswer, dataAnswer, readAnswer, countIn, countsRead, eventIn, readOf}
 use Rattle.layout.specs.Writer.{countFits, countsFit, writable, writeAnswer, writeWords}
 use Rattle.layout.proofs.Answers.{GoodHeader, if-so, read-done, body-done, reads-done}
 use Rattle.layout.proofs.Enabled.{length-enabled, ones-in-le}
@@ -29,8 +29,8 @@ use Rattle.layout.proofs.Written.{write-answers, write-leaves}
 
 -- ---- the data
 -- a datum that is not refused is the one of its channel and its count
-datum-again : (short : Bool) (k w : ℕ) (rest d : Answer) → isDone (cond short (datumAnswer k w rest) d) ≡ true
-    → (datumOf short k (countIn short w) ≡ w) × (isDone (cond short rest d) ≡ true)
+datum-again : (short : Bool) (k w : ℕ) (rest d : Answer) → noRefusal (cond short (datumAnswer k w rest) d) ≡ true
+    → (datumOf short k (countIn short w) ≡ w) × (noRefusal (cond short rest d) ≡ true)
 datum-again true k w rest d g =
     let a = if-so (eqb (w / 2 ^ 26 % 2) 0) _ DatumWithBit26 refl g in
     let b = if-so (eqb (w / 2 ^ 27) k) rest AnotherChannel refl (a .1) in
@@ -40,16 +40,16 @@ datum-again true k w rest d g =
 datum-again false k w rest d g = (refl, g)
 
 data-again : (short : Bool) (d k m : ℕ) (ws : List ℕ) (a : Answer) → length (enabledFrom d k m) ≤ length ws
-    → isDone (cond short (dataAnswer (enabledFrom d k m) ws a) a) ≡ true → dataFrom short k m (countsFrom d short m ws) ≡ take (length (enabledFrom d k m)) ws
+    → noRefusal (cond short (dataAnswer (enabledFrom d k m) ws a) a) ≡ true → dataFrom short k m (countsFrom d short m ws) ≡ take (length (enabledFrom d k m)) ws
 unfolding enabledFrom countsFrom dataFrom dataAnswer
 data-again short zero k m ws a l g = refl
 data-again short (suc d) k m ws a l g = go (m % 2) refl ws l g (λ us r f. data-again short d (suc k) (m / 2) us a r f)
   where
-    go : (b : ℕ) → m % 2 ≡ b → (us : List ℕ) → length (put b k (enabledFrom d (suc k) (m / 2))) ≤ length us
-        → isDone (cond short (dataAnswer (put b k (enabledFrom d (suc k) (m / 2))) us a) a) ≡ true
-        → ((vs : List ℕ) → length (enabledFrom d (suc k) (m / 2)) ≤ length vs → isDone (cond short (dataAnswer (enabledFrom d (suc k) (m / 2)) vs a) a) ≡ true
+    go : (b : ℕ) → m % 2 ≡ b → (us : List ℕ) → length (channelIf b k (enabledFrom d (suc k) (m / 2))) ≤ length us
+        → noRefusal (cond short (dataAnswer (channelIf b k (enabledFrom d (suc k) (m / 2))) us a) a) ≡ true
+        → ((vs : List ℕ) → length (enabledFrom d (suc k) (m / 2)) ≤ length vs → noRefusal (cond short (dataAnswer (enabledFrom d (suc k) (m / 2)) vs a) a) ≡ true
         → dataFrom short (suc k) (m / 2) (countsFrom d short (m / 2) vs) ≡ take (length (enabledFrom d (suc k) (m / 2))) vs)
-        → dataFrom short k m (countFirst b short (countsFrom d short (m / 2)) us) ≡ take (length (put b k (enabledFrom d (suc k) (m / 2)))) us
+        → dataFrom short k m (countFirst b short (countsFrom d short (m / 2)) us) ≡ take (length (channelIf b k (enabledFrom d (suc k) (m / 2)))) us
     go zero e us r f ih = rw e (ih us r f)
     go (suc b) e [] r f ih = absurd (omega arith)
     go (suc b) e (w ∷ us) r f ih =
@@ -82,21 +82,21 @@ counts-fit short (suc d) m ws = go (m % 2) refl ws (λ us. counts-fit short d (m
 
 -- ---- over the list of the enabled channels; `ws` are the words behind the header
 module _ (short : Bool) (x : ℕ) (ws : List ℕ) (l : length (enabledChannels x) ≤ length ws) where
-  counts-are : countsIn short (enabledChannels x) ws (replicate 32 0) ≡ countsFrom 32 short x ws
+  counts-are : countsRead short (enabledChannels x) ws (replicate 32 0) ≡ countsFrom 32 short x ws
   counts-are = counts-from short 32 0 x [] ws refl l
 
-  body-fits : countsFit short x (countsIn short (enabledChannels x) ws (replicate 32 0)) ≡ true
+  body-fits : countsFit short x (countsRead short (enabledChannels x) ws (replicate 32 0)) ≡ true
   body-fits = ap (countsFit short x) counts-are ∙ counts-fit short 32 x ws
 
-  body-again : (a : Answer) → isDone (cond short (dataAnswer (enabledChannels x) ws a) a) ≡ true
-      → dataOf short (countsIn short (enabledChannels x) ws (replicate 32 0)) (enabledChannels x) ≡ take (length (enabledChannels x)) ws
+  body-again : (a : Answer) → noRefusal (cond short (dataAnswer (enabledChannels x) ws a) a) ≡ true
+      → dataOf short (countsRead short (enabledChannels x) ws (replicate 32 0)) (enabledChannels x) ≡ take (length (enabledChannels x)) ws
   body-again a g =
       ap (λ (cs : List ℕ). dataOf short cs (enabledChannels x)) counts-are
       ∙ rw (length-counts 32 short x ws) at (data-from short 0 x [] (countsFrom 32 short x ws) refl)
       ∙ data-again short 32 0 x ws a l g
 
 -- a datum's answer that is no refusal is the one behind the data
-data-done : (ks ws : List ℕ) (a : Answer) → isDone (dataAnswer ks ws a) ≡ true → dataAnswer ks ws a ≡ a
+data-done : (ks ws : List ℕ) (a : Answer) → noRefusal (dataAnswer ks ws a) ≡ true → dataAnswer ks ws a ≡ a
 unfolding dataAnswer
 data-done [] ws a g = refl
 data-done (k ∷ ks) [] a g = absurd (false≢true g)
@@ -133,7 +133,7 @@ module _ (short : Bool) (x : ℕ) (b : x < 2 ^ 32) where
 
   words-again : (header : Bool) (ws : List ℕ) → getD ws 0 0 < 2 ^ 32 → eventLength (settings header short x) ≤ length ws
       → (header ≡ true → GoodHeader (settings header short x) (getD ws 0 0))
-      → isDone (cond short (dataAnswer (enabledChannels x) (drop (headerLength (settings header short x)) ws) (done (settings header short x))) (done (settings header short x))) ≡ true
+      → noRefusal (cond short (dataAnswer (enabledChannels x) (drop (headerLength (settings header short x)) ws) (givesLength (settings header short x))) (givesLength (settings header short x))) ≡ true
       → eventWords (settings header short x) (eventIn (settings header short x) ws) ≡ take (eventLength (settings header short x)) ws
   unfolding eventIn
   words-again true [] f l g d = absurd (omega arith)
@@ -143,7 +143,7 @@ module _ (short : Bool) (x : ℕ) (b : x < 2 ^ 32) where
   words-again false ws f l g d = rw add-zero (body-again short x ws (omega (arith, n)) _ d ∙ ap (λ (k : ℕ). take k ws) n)
 
 -- ---- the theorem
-pub read-writes-again : (st : Settings) (ws lent : List ℕ) → st .enable < 2 ^ 32 → ((i : ℕ) → getD ws i 0 < 2 ^ 32) → isDone (readAnswer st ws) ≡ true
+pub read-writes-again : (st : Settings) (ws lent : List ℕ) → st .enable < 2 ^ 32 → ((i : ℕ) → getD ws i 0 < 2 ^ 32) → noRefusal (readAnswer st ws) ≡ true
     → eventLength st ≤ length lent
     → (writeAnswer st (readOf st ws .event) lent ≡ readAnswer st ws)
     × (writeWords st (readOf st ws .event) lent ≡ take (eventLength st) ws ++ drop (eventLength st) lent)
@@ -153,10 +153,10 @@ read-writes-again st ws lent b w d r =
     let q = body-done st ws (p .2) in
     let can : writable st (eventIn st ws) ≡ true = can-again (st .short) (st .enable) b (st .header) ws (w 0) (q .0) in
     let same : eventWords st (eventIn st ws) ≡ take (eventLength st) ws = words-again (st .short) (st .enable) b (st .header) ws (w 0) (q .0) (p .1) (q .1) in
-    let a : readAnswer st ws ≡ done st = reads-done st ws (ones-in-le 32 (st .enable)) (p .0) (q .0) (p .1) (good (st .short) (q .1)) in
+    let a : readAnswer st ws ≡ givesLength st = reads-done st ws (ones-in-le 32 (st .enable)) (p .0) (q .0) (p .1) (good (st .short) (q .1)) in
     rw d (write-answers st (eventIn st ws) lent (p .0) can r ∙ sym a, write-leaves st (eventIn st ws) lent (p .0) can r ∙ ap (λ (us : List ℕ). us ++ drop (eventLength st) lent) same)
   where
-    good : (t : Bool) → isDone (cond t (dataAnswer (enabledChannels (st .enable)) (drop (headerLength st) ws) (done st)) (done st)) ≡ true
-        → t ≡ true → dataAnswer (enabledChannels (st .enable)) (drop (headerLength st) ws) (done st) ≡ done st
-    good true g e = data-done (enabledChannels (st .enable)) (drop (headerLength st) ws) (done st) g
+    good : (t : Bool) → noRefusal (cond t (dataAnswer (enabledChannels (st .enable)) (drop (headerLength st) ws) (givesLength st)) (givesLength st)) ≡ true
+        → t ≡ true → dataAnswer (enabledChannels (st .enable)) (drop (headerLength st) ws) (givesLength st) ≡ givesLength st
+    good true g e = data-done (enabledChannels (st .enable)) (drop (headerLength st) ws) (givesLength st) g
     good false g e = absurd (false≢true e)

@@ -18,14 +18,14 @@ abbrev pub events : ℕ → Events
 events n = record { 0 = n }
 
 -- "Channel Enable has one bit a channel": channel k in front of the others where its bit is one
-abbrev pub put : ℕ → ℕ → List ℕ → List ℕ
-put zero k others = others
-put (suc bit) k others = k ∷ others
+abbrev pub channelIf : ℕ → ℕ → List ℕ → List ℕ
+channelIf zero k others = others
+channelIf (suc bit) k others = k ∷ others
 
 -- the enabled ones of d channels from k on, ascending; the mask's lowest bit is that of k
 unfoldable pub enabledFrom : ℕ → ℕ → ℕ → List ℕ
 enabledFrom zero k mask = []
-enabledFrom (suc d) k mask = put (mask % 2) k (enabledFrom d (suc k) (mask / 2))
+enabledFrom (suc d) k mask = channelIf (mask % 2) k (enabledFrom d (suc k) (mask / 2))
 
 abbrev pub enabledChannels : ℕ → List ℕ
 enabledChannels enable = enabledFrom 32 0 enable

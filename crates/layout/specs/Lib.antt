@@ -3,3 +3,4 @@ pub mod Numbers
 pub mod Layout
 pub mod Writer
 pub mod Reader
+pub mod Lines

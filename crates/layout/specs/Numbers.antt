@@ -1,6 +1,6 @@
 -- Document 01, "Numbers that come back": those of the block reader and writer. Assumes nothing.
 use Prim.Native.Nat.{ℕ}
-use mathlib.Core.Bool.{Bool}
+use mathlib.Core.Bool.{Bool, cond}
 use lib.Dec.{eqb}
 use Rattle.layout.specs.declared.Answer.{Answer}
 use Rattle.layout.specs.declared.Answer.the-variants.{Done, NoWords, WordsEnd, NotAHeader, CountAbove32, DatumWithBit26, AnotherChannel, AnotherCount, Bits25And24, TooFewLent, NotAnEvent}
@@ -40,9 +40,13 @@ abbrev pub replyOf : Answer → Reply
 replyOf a = record { number = numberOf a; value = valueOf a }
 
 -- "it gives the event's length"; "The writer gives the length too"
-abbrev pub done : Settings → Answer
-done st = Done (words (eventLength st))
+abbrev pub givesLength : Settings → Answer
+givesLength st = Done (words (eventLength st))
+
+-- a link of the chain of refusals: `why`, unless this holds; else what comes after it
+abbrev pub unless : Bool → Answer → Answer → Answer
+unless holds why after = cond holds after why
 
 -- whether an answer is no refusal
-abbrev pub isDone : Answer → Bool
-isDone a = eqb (numberOf a) 0
+abbrev pub noRefusal : Answer → Bool
+noRefusal a = eqb (numberOf a) 0

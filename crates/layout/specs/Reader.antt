@@ -12,46 +12,43 @@ use Rattle.layout.specs.declared.Event.{Event}
 use Rattle.layout.specs.declared.Reading.{Reading}
 use Rattle.layout.specs.declared.Settings.{Settings}
 use Rattle.layout.specs.Length.{eventLength, headerLength, enabledChannels}
-use Rattle.layout.specs.Numbers.{done, isDone}
+use Rattle.layout.specs.Numbers.{givesLength, unless, noRefusal}
 
 -- 21: "header without bit 26"; 26: "header bits 25 and 24 not both 0"; 22: "header count above 32"; 25: "header count is not the number of
--- enabled channels"; else `rest`
+-- enabled channels"; then `after`
 abbrev pub headerAnswer : Settings → ℕ → Answer → Answer
-headerAnswer st header rest =
+headerAnswer st header after =
     let count : ℕ = header / 2 ^ 18 % 64 in
-    cond (eqb (header / 2 ^ 26 % 2) 1)
-    (cond (eqb (header / 2 ^ 24 % 4) 0)
-    (cond (leb count 32)
-    (cond (eqb count (onesIn 32 (st .enable))) rest
-    AnotherCount)
-    CountAbove32)
-    Bits25And24)
-    NotAHeader
+    unless (eqb (header / 2 ^ 26 % 2) 1) NotAHeader
+    (unless (eqb (header / 2 ^ 24 % 4) 0) Bits25And24
+    (unless (leb count 32) CountAbove32
+    (unless (eqb count (onesIn 32 (st .enable))) AnotherCount
+    after)))
 
--- 23: "short-format datum with bit 26 set"; 24: "short-format datum with a channel that is not the next enabled one"; else `rest`
+-- 23: "short-format datum with bit 26 set"; 24: "short-format datum with a channel that is not the next enabled one"; then `after`
 abbrev pub datumAnswer : ℕ → ℕ → Answer → Answer
-datumAnswer channel datum rest =
-    cond (eqb (datum / 2 ^ 26 % 2) 0)
-    (cond (eqb (datum / 2 ^ 27) channel) rest
-    AnotherChannel)
-    DatumWithBit26
+datumAnswer channel datum after =
+    unless (eqb (datum / 2 ^ 26 % 2) 0) DatumWithBit26
+    (unless (eqb (datum / 2 ^ 27) channel) AnotherChannel
+    after)
 
--- the short-format data of these channels, from the first; else `rest`
+-- the short-format data of these channels, from the first; then `after`
 unfoldable pub dataAnswer : List ℕ → List ℕ → Answer → Answer
-dataAnswer [] ws rest = rest
-dataAnswer (k ∷ ks) [] rest = WordsEnd
-dataAnswer (k ∷ ks) (w ∷ ws) rest = datumAnswer k w (dataAnswer ks ws rest)
+dataAnswer [] ws after = after
+dataAnswer (k ∷ ks) [] after = WordsEnd
+dataAnswer (k ∷ ks) (w ∷ ws) after = datumAnswer k w (dataAnswer ks ws after)
 
--- 20: "the words end before the event does"
+-- 20: "the words end before the event does"; then, in the short format, the data
 unfoldable pub bodyAnswer : Settings → List ℕ → Answer
 bodyAnswer st ws =
-    cond (ltb (length ws) (eventLength st)) WordsEnd
-    (cond (st .short) (dataAnswer (enabledChannels (st .enable)) (drop (headerLength st) ws) (done st)) (done st))
+    unless (leb (eventLength st) (length ws)) WordsEnd
+    (cond (st .short) (dataAnswer (enabledChannels (st .enable)) (drop (headerLength st) ws) (givesLength st)) (givesLength st))
 
+-- 8: "the event would have no words"; "20 for no words"; then the header, where there is one, and the body
 unfoldable pub readAnswer : Settings → List ℕ → Answer
 readAnswer st ws =
-    cond (eqb (eventLength st) 0) NoWords
-    (cond (eqb (length ws) 0) WordsEnd
+    unless (ltb 0 (eventLength st)) NoWords
+    (unless (ltb 0 (length ws)) WordsEnd
     (cond (st .header) (headerAnswer st (getD ws 0 0) (bodyAnswer st ws)) (bodyAnswer st ws)))
 
 -- "Long: 32 bits. Short: .. 25-0 the count"
@@ -59,10 +56,10 @@ abbrev pub countIn : Bool → ℕ → ℕ
 countIn short datum = cond short (datum % 2 ^ 26) datum
 
 -- the counts with those of the data at their channels; for each channel there is a word, since 20 is looked at before
-unfoldable pub countsIn : Bool → List ℕ → List ℕ → List ℕ → List ℕ
-countsIn short [] ws counts = counts
-countsIn short (k ∷ ks) [] counts = counts
-countsIn short (k ∷ ks) (w ∷ ws) counts = countsIn short ks ws (set counts k (countIn short w))
+unfoldable pub countsRead : Bool → List ℕ → List ℕ → List ℕ → List ℕ
+countsRead short [] ws counts = counts
+countsRead short (k ∷ ks) [] counts = counts
+countsRead short (k ∷ ks) (w ∷ ws) counts = countsRead short ks ws (set counts k (countIn short w))
 
 -- all fields 0
 abbrev pub noEvent : Event
@@ -76,9 +73,9 @@ eventIn st ws =
       geo = header / 2 ^ 27;
       source = header / 2 ^ 16 % 4;
       trigger = header % 2 ^ 16;
-      counts = countsIn (st .short) (enabledChannels (st .enable)) (drop (headerLength st) ws) (replicate 32 0);
+      counts = countsRead (st .short) (enabledChannels (st .enable)) (drop (headerLength st) ws) (replicate 32 0);
     }
 
 -- "block reader: all fields 0", where it refuses
 unfoldable pub readOf : Settings → List ℕ → Reading
-readOf st ws = record { answer = readAnswer st ws; event = cond (isDone (readAnswer st ws)) (eventIn st ws) noEvent }
+readOf st ws = record { answer = readAnswer st ws; event = cond (noRefusal (readAnswer st ws)) (eventIn st ws) noEvent }

@@ -10,7 +10,7 @@ use Rattle.layout.specs.declared.Event.{Event}
 use Rattle.layout.specs.declared.Settings.{Settings}
 use Rattle.layout.specs.Layout.{eventWords}
 use Rattle.layout.specs.Length.{eventLength}
-use Rattle.layout.specs.Numbers.{done, isDone}
+use Rattle.layout.specs.Numbers.{givesLength, unless, noRefusal}
 
 -- 28: "GEO above 31, source above 3, trigger number above 65,535"
 abbrev pub fieldsFit : Event → Bool
@@ -37,14 +37,14 @@ countsFit short mask (c ∷ cs) = countFits short (mask % 2) c && countsFit shor
 unfoldable pub writable : Settings → Event → Bool
 writable st ev = fieldsFit ev && cond (st .header) true (fieldsZero ev) && countsFit (st .short) (st .enable) (ev .counts)
 
--- 8: "the event would have no words"; 27: "lent words too few for the event being written"
+-- 8: "the event would have no words"; 28; 27: "lent words too few for the event being written"
 unfoldable pub writeAnswer : Settings → Event → List ℕ → Answer
 writeAnswer st ev lent =
-    cond (eqb (eventLength st) 0) NoWords
-    (cond (writable st ev)
-    (cond (ltb (length lent) (eventLength st)) TooFewLent (done st))
-    NotAnEvent)
+    unless (ltb 0 (eventLength st)) NoWords
+    (unless (writable st ev) NotAnEvent
+    (unless (leb (eventLength st) (length lent)) TooFewLent
+    (givesLength st)))
 
 -- "and changes only those words"; where it refuses, "lent memory is untouched"
 unfoldable pub writeWords : Settings → Event → List ℕ → List ℕ
-writeWords st ev lent = cond (isDone (writeAnswer st ev lent)) (eventWords st ev ++ drop (eventLength st) lent) lent
+writeWords st ev lent = cond (noRefusal (writeAnswer st ev lent)) (eventWords st ev ++ drop (eventLength st) lent) lent

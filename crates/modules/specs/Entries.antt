@@ -1,30 +1,23 @@
 -- What an entry of the log does to the module; docs/FORMATS.md, `trace`. Assumes nothing.
-use Prim.Native.Nat.{ℕ}
-use mathlib.Core.Bool.{Bool, true, false}
-use mathlib.Core.List.{List}
+use mathlib.Core.Bool.{true, false}
 use Rattle.benchlog.specs.declared.Entry.{Entry}
 use Rattle.benchlog.specs.declared.Entry.the-variants as entry
-use Rattle.bus.specs.declared.Access.{Access}
+use Rattle.logged.specs.Entries.{accessFor, call830Of}
+use Rattle.meb.specs.Ring.{Memory}
 use Rattle.scaler.specs.declared.Call.{Call}
 use Rattle.scaler.specs.declared.Call.the-variants as call
 use Rattle.v260.specs.declared.Outcome as o260
 use Rattle.v260.specs.Calls as v260
 use Rattle.v560.specs.declared.Outcome as o560
 use Rattle.v560.specs.Calls as v560
-use Rattle.v830.specs.declared.Call as c830
-use Rattle.v830.specs.declared.Call.the-variants as call830
 use Rattle.v830.specs.declared.Outcome as o830
 use Rattle.v830.specs.Calls as v830
 use Rattle.modules.specs.declared.Held.{Held}
 use Rattle.modules.specs.declared.Which.{Which}
 use Rattle.modules.specs.declared.Which.the-variants as which
 
--- "kinds 5 and 6 are accesses": a read has no data
-abbrev pub accessFor : Bool → ℕ → ℕ → ℕ → Access
-accessFor write offset width word = record { offset = offset; width = width; write = write; «data» = word }
-
 -- "A pulse entry gives that many pulses to that channel, a veto entry sets the front veto line, kinds 2, 3 and 7 are TEST, the CLEAR line and
--- MAN CLR, kinds 5 and 6 are accesses."
+-- MAN CLR, kinds 5 and 6 are accesses."; what it asks of a V830 is call830Of
 abbrev pub callOf : Entry → Call
 callOf (entry.Pulse channel n) = call.Pulses channel n
 callOf (entry.Veto on) = call.VetoLine on
@@ -34,17 +27,6 @@ callOf entry.Trigger = call.Trigger
 callOf (entry.Read offset width) = call.Access (accessFor false offset width 0)
 callOf (entry.Write offset width word) = call.Access (accessFor true offset width word)
 callOf entry.ManClr = call.ManClr
-
--- the same of a V830: kind 4 "is the V830's external trigger"
-abbrev pub call830Of : Entry → c830.Call
-call830Of (entry.Pulse channel n) = call830.Pulses channel n
-call830Of (entry.Veto on) = call830.VetoLine on
-call830Of entry.Test = call830.Test
-call830Of entry.Clear = call830.ClearLine
-call830Of entry.Trigger = call830.TriggerLine
-call830Of (entry.Read offset width) = call830.Access (accessFor false offset width 0)
-call830Of (entry.Write offset width word) = call830.Access (accessFor true offset width word)
-call830Of entry.ManClr = call830.ManClr
 
 -- the answer's number and value, "and what the module holds after it"; the other two stand still
 abbrev pub after260 : Held → o260.Outcome → Held
@@ -61,19 +43,19 @@ after830 t o =
     record { which = which.V830; answer = o .answer; v260 = t .v260; v560 = t .v560; v830 = o .state; interrupter = t .interrupter }
 
 -- the module after an entry
-abbrev pub actedAs : Which → Held → List ℕ → Entry → Held
+abbrev pub actedAs : Which → Held → Memory → Entry → Held
 actedAs which.V260 t memory e = after260 t (v260.stepOf (t .v260) (t .interrupter) (callOf e))
 actedAs which.V560 t memory e = after560 t (v560.stepOf (t .v560) (t .interrupter) (callOf e))
 actedAs which.V830 t memory e = after830 t (v830.stepOf (t .v830) memory (call830Of e) .outcome)
 
-abbrev pub acted : Held → List ℕ → Entry → Held
+abbrev pub acted : Held → Memory → Entry → Held
 acted t memory e = actedAs (t .which) t memory e
 
 -- the memory after an entry: "Each access and each trigger of a V830 is lent all the words."
-abbrev pub memoryAs : Which → Held → List ℕ → Entry → List ℕ
+abbrev pub memoryAs : Which → Held → Memory → Entry → Memory
 memoryAs which.V260 t memory e = memory
 memoryAs which.V560 t memory e = memory
 memoryAs which.V830 t memory e = v830.stepOf (t .v830) memory (call830Of e) .memory
 
-abbrev pub memoryAfter : Held → List ℕ → Entry → List ℕ
+abbrev pub memoryAfter : Held → Memory → Entry → Memory
 memoryAfter t memory e = memoryAs (t .which) t memory e

@@ -6,6 +6,7 @@ use lib.Dec.{eqb, ltb}
 use lib.ListN.{getD, take, drop, replicate}
 use Rattle.bus.specs.declared.Answer.the-variants.{Done}
 use Rattle.bus.specs.Interrupting.{powerOn}
+use Rattle.meb.specs.Ring.{Memory, lent}
 use Rattle.scaler.specs.Orders.{counting}
 use Rattle.v260.specs.declared.Outcome as o260
 use Rattle.v260.specs.declared.Switches.{Switches}
@@ -13,8 +14,8 @@ use Rattle.v260.specs.Outcomes as v260
 use Rattle.v560.specs.declared.Outcome as o560
 use Rattle.v560.specs.Outcomes as v560
 use Rattle.v830.specs.declared.Outcome as o830
-use Rattle.v830.specs.Counting as c830
 use Rattle.v830.specs.Outcomes as v830
+use Rattle.v830.specs.State as s830
 use Rattle.modules.specs.declared.Held.{Held}
 use Rattle.modules.specs.declared.Which.{Which}
 use Rattle.modules.specs.declared.Which.the-variants as which
@@ -40,7 +41,7 @@ counted560 counts o =
     record { answer = o .answer; state = v560.scaled (counting counts (o .state .scales)) (o .state); interrupter = o .interrupter }
 
 abbrev pub counted830 : List ℕ → o830.Outcome → o830.Outcome
-counted830 counts o = record { answer = o .answer; state = c830.counting counts (o .state) }
+counted830 counts o = record { answer = o .answer; state = s830.counting counts (o .state) }
 
 -- the three modules at rest, from which a start begins
 abbrev pub resting : Held
@@ -50,7 +51,7 @@ resting =
       answer = Done 0;
       v260 = v260.startOf (switchesOf (replicate 40 0)) 0 .state;
       v560 = v560.started 0 .state;
-      v830 = v830.started 0 (0 ∷ []) .state;
+      v830 = v830.started 0 (lent (0 ∷ [])) .state;
       interrupter = powerOn 0;
     }
 
@@ -61,11 +62,11 @@ begun260 values = after260 resting (counted260 (take 16 (drop 5 values)) (v260.s
 abbrev pub begun560 : List ℕ → Held
 begun560 values = after560 resting (counted560 (take 16 (drop 2 values)) (v560.started (getD values 1 0 % 2 ^ 8)))
 
-abbrev pub begun830 : List ℕ → List ℕ → Held
+abbrev pub begun830 : List ℕ → Memory → Held
 begun830 values memory = after830 resting (counted830 (take 32 (drop 3 values)) (v830.started (getD values 1 0) memory))
 
 -- the module that is named
-abbrev pub begunOf : Which → List ℕ → List ℕ → Held
+abbrev pub begunOf : Which → List ℕ → Memory → Held
 begunOf which.V260 values memory = begun260 values
 begunOf which.V560 values memory = begun560 values
 begunOf which.V830 values memory = begun830 values memory

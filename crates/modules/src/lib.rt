@@ -2,14 +2,16 @@
 ghost use mathlib.Core.Path.{_≡_};
 ghost use Prim.Native.Nat.{_+_, _≤_};
 ghost use lib.ListN.{length, take, drop};
+ghost use Rattle.meb.specs.Ring.{lent};
 ghost use Rattle.v260.specs.Calls as v260;
 ghost use Rattle.v560.specs.Calls as v560;
-ghost use Rattle.modules.specs.Entries.{accessFor, callOf, call830Of, after260, after560, after830, acted, memoryAfter};
+ghost use Rattle.modules.specs.Entries.{callOf, after260, after560, after830, acted, memoryAfter};
 ghost use Rattle.modules.specs.Heads.{switchesOf, resting, begun260, begun560, begun830, begunOf, lentOf, atMost};
 use benchlog::Entry;
-use bus::Access;
 use bus::Answer;
 use bus::interrupter::Interrupter;
+use logged::access_for;
+use logged::call_830_of;
 use scaler::Call;
 use v260::Switches;
 use v260::V260;
@@ -33,18 +35,6 @@ pub struct Held {
     pub interrupter: Interrupter,
 }
 
-// The access of an entry; a read has no data.
-fn access_for(write: bool, offset: u32, width: u32, data: u32) -> Access
-    ensures { λ r. ⌜ r ≡ accessFor write offset width «data» ⌝ }
-{
-    Access {
-        offset,
-        width,
-        write,
-        data,
-    }
-}
-
 // The call of a V260 or a V560 that an entry of the log makes.
 fn call_of(entry: Entry) -> Call
     ensures { λ r. ⌜ r ≡ callOf entry ⌝ }
@@ -61,30 +51,9 @@ fn call_of(entry: Entry) -> Call
     }
 }
 
-// The call of a V830, likewise.
-pub fn call_830_of(entry: Entry) -> v830::Call
-    ensures { λ r. ⌜ r ≡ call830Of entry ⌝ }
-{
-    match entry {
-        Entry::Pulse(channel, n) => v830::Call::Pulses(channel, n),
-        Entry::Veto(on) => v830::Call::VetoLine(on),
-        Entry::Test => v830::Call::Test,
-        Entry::Clear => v830::Call::ClearLine,
-        Entry::Trigger => v830::Call::TriggerLine,
-        Entry::Read(offset, width) => v830::Call::Access(access_for(false, offset, width, 0)),
-        Entry::Write(offset, width, data) => v830::Call::Access(access_for(
-            true,
-            offset,
-            width,
-            data,
-        )),
-        Entry::ManClr => v830::Call::ManClr,
-    }
-}
-
 // The module after an entry; a V830 is lent the memory.
 pub fn act(t: Held, memory: &mut [u32], entry: Entry) -> Held
-    ensures { λ r. ⌜ (r ≡ acted t (now (memory .entry)) entry) × (now (memory .exit) ≡ memoryAfter t (now (memory .entry)) entry) ⌝ }
+    ensures { λ r. ⌜ (r ≡ acted t (lent (now (memory .entry))) entry) × (now (memory .exit) ≡ memoryAfter t (lent (now (memory .entry))) entry .words) ⌝ }
 {
     let which = t.which;
     let v260 = t.v260;
@@ -258,7 +227,7 @@ fn begin_560(values: [u32; 40]) -> Held
 
 // A V830, likewise, with the memory that is lent to it.
 fn begin_830(values: [u32; 40], memory: &[u32]) -> Held
-    ensures { λ r. ⌜ r ≡ begun830 values (now (memory .entry)) ⌝ }
+    ensures { λ r. ⌜ r ≡ begun830 values (lent (now (memory .entry))) ⌝ }
 {
     let mut o = v830::start(values[1], memory);
     let mut state = o.state;
@@ -271,7 +240,7 @@ fn begin_830(values: [u32; 40], memory: &[u32]) -> Held
 
 // The module that is named, started with the values of its head and the memory that is lent to it.
 pub fn begin(which: Which, values: [u32; 40], memory: &[u32]) -> Held
-    ensures { λ r. ⌜ r ≡ begunOf which values (now (memory .entry)) ⌝ }
+    ensures { λ r. ⌜ r ≡ begunOf which values (lent (now (memory .entry))) ⌝ }
 {
     match which {
         Which::V260 => begin_260(values),

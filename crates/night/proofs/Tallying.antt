@@ -1,18 +1,19 @@
--- A number's last digits as the bytes of a word: counted up, shifted to the front, and put with what follows over what is left of them. Assumes nothing.
+-- A number's last digits as the bytes of a word: counted up, shifted to the front, and put with what follows over
+-- what is left of them. Assumes nothing.
 use Prim.Native.Nat.{ℕ, zero, suc, _+_, _-_, _*_, _/_, _%_, _^_, _≤_, _<_}
 use mathlib.Core.Path.{_≡_, refl, sym, ap, ap₂, _∙_}
-use mathlib.Core.Bool.{true, cond}
+use mathlib.Core.Bool.{Bool, true, false}
 use mathlib.Core.List.{List, [], _∷_, _++_, append-assoc, append-nil}
 use native.Mathlib.Omega.{arith}
 use native.Mathlib.Nat.{add-zero, mul-one, mul-assoc, pow-zero, pow-suc, one-le-pow, mul-div-cancel, mul-mod-left}
-use borrow.Author.Tests.{le-leb}
+use borrow.Author.Tests.{le-leb, ltb-true, ltb-false}
 use lib.Arith.{digits-div, digits-mod, mod-mul}
-use lib.Dec.{leb}
+use lib.Dec.{leb, ltb}
 use lib.ListN.{length, length-append}
 use lib.Pow.{pow-add}
 use Rattle.text.specs.Line.{line, putIn, afterIn}
 use Rattle.text.specs.Text.{put, after, decimal}
-use Rattle.text.proofs.Decimal.{lastDigits, decimal-last, decimal-next, line-least, length-line}
+use Rattle.text.proofs.Decimal.{lastDigits, decimal-last, decimal-one, decimal-next, decimal-round, line-least, length-line}
 use Rattle.text.proofs.Putting.{put-more, put-again, length-put, after-fits}
 use Rattle.night.specs.declared.Taken.{Taken}
 use Rattle.night.specs.declared.tally.Tally.{Tally}
@@ -23,20 +24,72 @@ pub word-halves : (n : ℕ) → wordOf 8 n ≡ wordOf 4 (n / 10000) * 4294967296
 unfolding wordOf
 word-halves n = let e : n / 10000 ≡ n / 10 / 10 / 10 / 10 = omega arith in rw e (omega arith)
 
--- eight digits are not all ones of a word
-pub word-below : (n : ℕ) → wordOf 8 n + 1 < 2 ^ 64
+-- eight digits leave room in a word to count on in its last two bytes
+pub word-below : (n : ℕ) → wordOf 8 n + 247 < 2 ^ 64
 unfolding wordOf
 word-below n = omega arith
+
+word-last : (k n : ℕ) → wordOf (suc k) n ≡ wordOf k (n / 10) * 256 + (48 + n % 10)
+unfolding wordOf
+word-last k n = refl
 
 -- the next number, where its last digit is not 0, has one more in the last byte
 word-next : (k n m : ℕ) → m / 10 ≡ n / 10 → m % 10 ≡ n % 10 + 1 → wordOf (suc k) m ≡ wordOf (suc k) n + 1
 unfolding wordOf
 word-next k n m q r = rw (q, r) (omega arith)
 
-pub counted-one : (n m : ℕ) → n < 2 ^ 64 → m ≡ (n + 1) % 2 ^ 64 → (m % 10 ≡ 0 → ⊥) → (wordOf 8 m ≡ wordOf 8 n + 1) × (length (decimal m) ≡ length (decimal n))
-counted-one n m h e z =
-    let s : m ≡ n + 1 = omega (arith, z) in
-    (word-next 7 n m (omega (arith, z)) (omega (arith, z)), ap (λ (x : ℕ). length (decimal x)) s ∙ decimal-next n (rw s at z))
+-- and where the last digit goes round from 9 to 0, and the one before it does not, one more in that byte and nine
+-- fewer in the last
+word-round : (k n m : ℕ) → m / 10 / 10 ≡ n / 10 / 10 → m / 10 % 10 ≡ n / 10 % 10 + 1 → n % 10 ≡ 9 → m % 10 ≡ 0 → wordOf (suc (suc k)) m ≡ wordOf (suc (suc k)) n + 247
+word-round k n m q r s t =
+    let w : wordOf (suc k) (m / 10) ≡ wordOf (suc k) (n / 10) + 1 = word-next k (n / 10) (m / 10) q r in
+    word-last (suc k) m ∙ omega (arith, w, word-last (suc k) n)
+
+-- the last two bytes of a word, and its two last digits
+last-byte : (n : ℕ) → wordOf 8 n % 256 ≡ 48 + n % 10
+unfolding wordOf
+last-byte n = omega arith
+
+byte-before : (n : ℕ) → wordOf 8 n / 256 % 256 ≡ 48 + n / 10 % 10
+unfolding wordOf
+byte-before n = omega arith
+
+nine-last : (n : ℕ) → wordOf 8 n % 256 ≡ 57 → n % 10 ≡ 9
+nine-last n t = omega (arith, last-byte n)
+
+tens-nine : (q : ℕ) → (q + 1) % 10 ≡ 0 → q % 10 ≡ 9
+tens-nine q e = omega arith
+
+two-digits : (n : ℕ) → 2 ≤ length (decimal n) → 10 ≤ n
+two-digits n f = go (ltb n 10) refl
+  where
+    go : (b : Bool) → ltb n 10 ≡ b → 10 ≤ n
+    go true e = absurd (omega (arith, f, ap length (decimal-one n (ltb-true n 10 e))))
+    go false e = ltb-false n 10 e
+
+next-below : (n m : ℕ) → n < 2 ^ 64 → m ≡ (n + 1) % 2 ^ 64 → (m ≡ 0 → ⊥) → m ≡ n + 1
+next-below n m h e z = omega (arith, z)
+
+-- the next number has one more in the last byte where that is not 9
+pub counted-one : (n m : ℕ) → n < 2 ^ 64 → m ≡ (n + 1) % 2 ^ 64 → (m ≡ 0 → ⊥) → (wordOf 8 n % 256 ≡ 57 → ⊥)
+    → (wordOf 8 m ≡ wordOf 8 n + 1) × (length (decimal m) ≡ length (decimal n))
+counted-one n m h e z t =
+    let s : m ≡ n + 1 = next-below n m h e z in
+    let d : n % 10 ≡ 9 → ⊥ = λ x. t (last-byte n ∙ ap (λ (k : ℕ). 48 + k) x) in
+    (word-next 7 n m (omega (arith, d)) (omega (arith, d)), ap (λ (x : ℕ). length (decimal x)) s ∙ decimal-next n (λ x. d (omega arith)))
+
+-- and where that is 9 and the byte before it is not, 247 more in both
+round-numbers : (n m : ℕ) → m ≡ n + 1 → n % 10 ≡ 9 → (n / 10 % 10 ≡ 9 → ⊥) → (m / 10 / 10 ≡ n / 10 / 10) × (m / 10 % 10 ≡ n / 10 % 10 + 1) × (m % 10 ≡ 0)
+round-numbers n m s d c = let q : m / 10 ≡ n / 10 + 1 = omega arith in (rw q (omega (arith, c)), rw q (omega (arith, c)), omega arith)
+
+pub counted-two : (n m : ℕ) → n < 2 ^ 64 → m ≡ (n + 1) % 2 ^ 64 → (m ≡ 0 → ⊥) → wordOf 8 n % 256 ≡ 57 → 2 ≤ length (decimal n)
+    → (wordOf 8 n / 256 % 256 ≡ 57 → ⊥) → (wordOf 8 m ≡ wordOf 8 n + 247) × (length (decimal m) ≡ length (decimal n))
+counted-two n m h e z t f u =
+    let s : m ≡ n + 1 = next-below n m h e z in
+    let d : n % 10 ≡ 9 = nine-last n t in
+    let c : n / 10 % 10 ≡ 9 → ⊥ = λ x. u (byte-before n ∙ ap (λ (k : ℕ). 48 + k) x) in
+    let r = round-numbers n m s d c in
+    (word-round 6 n m (r .0) (r .1) d (r .2), ap (λ (x : ℕ). length (decimal x)) s ∙ decimal-round n (two-digits n f) d (λ x. c (tens-nine (n / 10) x)))
 
 -- a tally of any number is that of its own
 pub tells : (t : Tally) (n : ℕ) → t ≡ tallyOf n → t ≡ tallyOf (t .number)
@@ -121,7 +174,8 @@ digits-first n figures f h =
     ∙ shifted j figures (wordOf 8 n)
     ∙ ap (λ (bs : List ℕ). bs ++ noughts j) d
 
--- a line whose first number's digits are put with noughts behind them: a blank and the two numbers that follow cover these
+-- a line whose first number's digits are put with noughts behind them: a blank and the two numbers that follow cover
+-- these
 module _ (out : List ℕ) (at n a v : ℕ) (h : at + 63 ≤ length out) (figures : ℕ) (f : figures ≡ length (decimal n)) (least : 3 ≤ figures) (most : figures ≤ 8) where
   abbrev over : List ℕ
   over = 32 ∷ line (a ∷ v ∷ [])

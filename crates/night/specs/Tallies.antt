@@ -1,5 +1,5 @@
--- The number of an entry, counted up as its line shows it: what the functions of src/tally.rt promise each other, and no public one speaks of. Assumes
--- nothing.
+-- The number of an entry, counted up as its line shows it: what the functions of src/tally.rt promise each other, and
+-- no public one speaks of. Assumes nothing.
 use Prim.Native.Nat.{ℕ, zero, suc, _+_, _*_, _/_, _%_}
 use mathlib.Core.List.{List, [], _∷_, _++_}
 use lib.ListN.{length}

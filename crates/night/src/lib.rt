@@ -8,8 +8,12 @@ ghost use Rattle.benchlog.specs.declared.Fault.the-variants.{Ends};
 ghost use Rattle.benchlog.specs.Faults.{faultNumber};
 ghost use lib.ListN.{length};
 ghost use Rattle.text.specs.Text.{put};
-ghost use Rattle.night.specs.Lines.{text, begun, stepped, takenOf};
-ghost use Rattle.night.specs.Runs.{runFor, partOf, partBehind, stoppedAt};
+ghost use mathlib.Core.Bool.{true};
+ghost use Rattle.meb.specs.Ring.{lent};
+ghost use Rattle.text.specs.Text.{after};
+ghost use Rattle.v830.specs.State.{formed};
+ghost use Rattle.night.specs.Lines.{heading, text, begunAt, stepped, takenOf};
+ghost use Rattle.night.specs.Runs.{replayFor, runFor, partOf, partBehind, stoppedAt};
 
 mod tally;
 
@@ -19,6 +23,7 @@ use crate::tally::put_entry;
 use benchlog::Entry;
 use benchlog::Fault;
 use benchlog::Reading;
+use bus::Answer;
 use v830::V830;
 
 // Where a replay stands: the module, the entries taken, and the log's place of the next byte.
@@ -36,11 +41,12 @@ pub struct Taken {
     pub value: u32,
 }
 
-// What comes next in a listing: further lines, or bytes of the log first, or nothing.
+// What comes next in a listing: further lines, or bytes of the log first, or nothing; or why nothing of it is run.
 pub enum Next {
     Lines,
     Bytes,
     Nothing,
+    Refused(Answer),
 }
 
 // A part of a listing: the night after it, the bytes used of the log, those put out, and what is next.
@@ -53,7 +59,7 @@ pub struct Part {
 
 // A night that begins, on a fresh module that is lent the memory.
 pub fn begin(memory: &[u32]) -> Night
-    ensures { λ r. ⌜ r ≡ begun (now (memory .entry)) ⌝ }
+    ensures { λ r. ⌜ r ≡ begunAt (lent (now (memory .entry))) ⌝ }
 {
     let o = v830::start(0, memory);
     let v830 = o.state;
@@ -64,12 +70,20 @@ pub fn begin(memory: &[u32]) -> Night
     }
 }
 
+// Puts the first line of a listing, where it fits, and answers the place after it.
+pub fn put_heading(out: &mut [u8], at: usize) -> usize
+    ensures { λ r. ⌜ (r ≡ after (now (out .entry)) at heading) × (now (out .exit) ≡ put (now (out .entry)) at heading) ⌝ }
+{
+    text::put_text(out, at, b"entry answer value\n")
+}
+
 // Takes one entry, of so many bytes: one step of the module, and the line's three numbers.
-pub fn take(night: Night, memory: &mut [u32], entry: Entry, bytes: usize) -> Taken
-    ensures { λ r. ⌜ (r ≡ takenOf night (now (memory .entry)) entry bytes) × (now (memory .exit) ≡ stepped night (now (memory .entry)) entry .memory) ⌝ }
+fn take(night: Night, memory: &mut [u32], entry: Entry, bytes: usize) -> Taken
+    requires { ⌜ (formed (night .v830) ≡ true) × (length (now memory) ≡ night .v830 .store .capacity .0) ⌝ }
+    ensures { λ r. ⌜ (r ≡ takenOf night (lent (now (memory .entry))) entry bytes) × (now (memory .exit) ≡ stepped night (lent (now (memory .entry))) entry .memory .words) ⌝ }
 {
     let before = night.v830;
-    let o = v830::step(before, memory, modules::call_830_of(entry));
+    let o = v830::step_formed(before, memory, logged::call_830_of(entry));
     let answer = o.answer;
     let reply = bus::numbered(answer);
     let v830 = o.state;
@@ -87,9 +101,23 @@ pub fn take(night: Night, memory: &mut [u32], entry: Entry, bytes: usize) -> Tak
     }
 }
 
-// Replays what is at hand of a log, `last` where nothing follows it: as many lines as surely fit the buffer.
+// Replays what is at hand of a log, `last` where nothing follows it: as many lines as surely fit the buffer. 12 and
+// 10 are asked once, here.
 pub fn replay(night: Night, memory: &mut [u32], log: &[u8], last: bool, out: &mut [u8]) -> Part
-    ensures { λ r. ⌜ (r ≡ partOf (runFor (now (out .entry)) last (now (log .entry)) night (now (memory .entry)))) × (now (memory .exit) ≡ runFor (now (out .entry)) last (now (log .entry)) night (now (memory .entry)) .memory) × (now (out .exit) ≡ put (now (out .entry)) 0 (text (runFor (now (out .entry)) last (now (log .entry)) night (now (memory .entry)) .lines))) ⌝ }
+    ensures { λ r. ⌜ (r ≡ partOf (replayFor (now (out .entry)) last (now (log .entry)) night (lent (now (memory .entry))))) × (now (memory .exit) ≡ replayFor (now (out .entry)) last (now (log .entry)) night (lent (now (memory .entry))) .memory .words) × (now (out .exit) ≡ put (now (out .entry)) 0 (text (replayFor (now (out .entry)) last (now (log .entry)) night (lent (now (memory .entry))) .lines))) ⌝ }
+{
+    let v830 = night.v830;
+    let answer = v830::gate(v830, memory);
+    if bus::numbered(answer).number != 0 {
+        return here(night, 0, 0, Next::Refused(answer));
+    }
+    run(night, memory, log, last, out)
+}
+
+// The same of a night whose module is not malformed and has its memory, which each entry leaves so.
+fn run(night: Night, memory: &mut [u32], log: &[u8], last: bool, out: &mut [u8]) -> Part
+    requires { ⌜ (formed (night .v830) ≡ true) × (length (now memory) ≡ night .v830 .store .capacity .0) ⌝ }
+    ensures { λ r. ⌜ (r ≡ partOf (runFor (now (out .entry)) last (now (log .entry)) night (lent (now (memory .entry))))) × (now (memory .exit) ≡ runFor (now (out .entry)) last (now (log .entry)) night (lent (now (memory .entry))) .memory .words) × (now (out .exit) ≡ put (now (out .entry)) 0 (text (runFor (now (out .entry)) last (now (log .entry)) night (lent (now (memory .entry))) .lines))) ⌝ }
 {
     let mut now = night;
     let mut used: usize = 0;
@@ -125,7 +153,7 @@ fn stop(
     at: usize,
 ) -> Part
     requires { ⌜ at + 63 ≤ length (now out) ⌝ }
-    ensures { λ r. ⌜ (r ≡ partBehind used at (stoppedAt last (now (rest .entry)) fault night [])) × (now (out .exit) ≡ put (now (out .entry)) at (text (stoppedAt last (now (rest .entry)) fault night [] .lines))) ⌝ }
+    ensures { λ r. ⌜ (r ≡ partBehind used at (stoppedAt last (now (rest .entry)) fault night (lent []))) × (now (out .exit) ≡ put (now (out .entry)) at (text (stoppedAt last (now (rest .entry)) fault night (lent []) .lines))) ⌝ }
 {
     if wants_bytes(last, fault) {
         return here(night, used, at, Next::Bytes);

@@ -36,18 +36,28 @@ pub(crate) fn counted_to(n: u64) -> Tally
     }
 }
 
-// The tally of the next number: its last digit alone, or all where that goes round.
+// The tally of the next number: its last digit alone, or the last two where that goes round, or all where both do.
 pub(crate) fn counted_up(t: Tally) -> Tally
     requires { ⌜ t ≡ tallyOf (t .number) ⌝ }
     ensures { λ r. ⌜ r ≡ tallyOf ((t .number + 1) % 2 ^ 64) ⌝ }
 {
     let number = std::num::wrapping_add_u64(t.number, 1);
-    if number % 10 == 0 {
+    if number == 0 {
+        return counted_to(number);
+    }
+    if t.word % 256 != 57 {
+        return Tally {
+            number,
+            word: t.word + 1,
+            figures: t.figures,
+        };
+    }
+    if t.figures < 2 || t.word / 256 % 256 == 57 {
         return counted_to(number);
     }
     Tally {
         number,
-        word: t.word + 1,
+        word: t.word + 247,
         figures: t.figures,
     }
 }

@@ -1,12 +1,16 @@
--- Any two permitted results of a public function are equal, the new state and every lent word among them: of each function's contract, as the check reads it off the function's own
--- clauses (`Post`). By `determined`, since each contract is an equation with what a definition gives for the input. Not here, because they read from the system, of which no equation can speak:
--- `stdio::refill`, `stdio::read_on` and `head::begin` (docs/PROMISES.md says of each what that leaves open). Assumes nothing.
+-- Any two permitted results of a public function are equal, the new state and every lent word among them: of each
+-- function's contract, as the check reads it off the function's own clauses (`Post`). By `determined`, since each
+-- contract is an equation with what a definition gives for the input. Not here, because they read from the system, of
+-- which no equation can speak: `stdio::refill`, `stdio::read_on` and `head::begin` (docs/PROMISES.md says of each
+-- what that leaves open). Assumes nothing.
 use Prim.Native.Nat.{ℕ}
 use mathlib.Core.Path.{ap₂}
 use mathlib.Core.List.{List}
 use denote.Ref.{now}
-use Rattle.count.proofs.Determined.{determined, OneResult, OneContent, OneOutcome}
-use Rattle.promises.proofs.Walked.{OneLent, both-determined}
+use Rattle.count.specs.Determined.{OneResult, OneContent, OneOutcome}
+use Rattle.count.proofs.Determined.{determined}
+use Rattle.promises.specs.Lent.{OneLent}
+use Rattle.promises.proofs.Walked.{both-determined}
 use Rattle.count.proofs.tick.Reads as count-tick
 use Rattle.count.proofs.bit_rose.Reads as count-bit-rose
 use Rattle.count.proofs.tick_each.Reads as count-tick-each
@@ -63,20 +67,23 @@ use Rattle.v260.proofs.in_place.clear_line as v260-in-place-clear-line
 use Rattle.v260.proofs.in_place.veto_line as v260-in-place-veto-line
 use Rattle.v260.proofs.in_place.man_clr as v260-in-place-man-clr
 use Rattle.v260.proofs.in_place.step as v260-in-place-step
-use Rattle.v830.proofs.pulses.Reads as v830-pulses
-use Rattle.v830.proofs.veto_line.Reads as v830-veto-line
-use Rattle.v830.proofs.test.Reads as v830-test
-use Rattle.v830.proofs.clear_line.Reads as v830-clear-line
-use Rattle.v830.proofs.trigger_line.Reads as v830-trigger-line
-use Rattle.v830.proofs.access.Reads as v830-access
 use Rattle.v830.proofs.step.Reads as v830-step
 use Rattle.v830.proofs.start.Reads as v830-start
+use Rattle.v830.proofs.gate.Reads as v830-gate
+use Rattle.v830.proofs.step_formed.Reads as v830-step-formed
+use Rattle.meb.proofs.empty.Reads as meb-empty
+use Rattle.meb.proofs.emptied.Reads as meb-emptied
+use Rattle.meb.proofs.fits.Reads as meb-fits
+use Rattle.meb.proofs.free.Reads as meb-free
+use Rattle.meb.proofs.hand_out.Reads as meb-hand-out
+use Rattle.meb.proofs.put.Reads as meb-put
+use Rattle.logged.proofs.access_for.Reads as logged-access-for
+use Rattle.logged.proofs.call_830_of.Reads as logged-call-830-of
 use Rattle.modules.proofs.act.Reads as modules-act
 use Rattle.modules.proofs.begin.Reads as modules-begin
-use Rattle.modules.proofs.call_830_of.Reads as modules-call-830-of
 use Rattle.modules.proofs.lent.Reads as modules-lent
 use Rattle.night.proofs.begin.Reads as night-begin
-use Rattle.night.proofs.take.Reads as night-take
+use Rattle.night.proofs.put_heading.Reads as night-put-heading
 use Rattle.night.proofs.replay.Reads as night-replay
 use Rattle.head.proofs.read_head.Reads as head-read-head
 use Rattle.text.proofs.fits.Reads as text-fits
@@ -268,29 +275,44 @@ pub one-v260-in-place-step : {M : Type 1} → OneLent {M = M} v260-in-place-step
 one-v260-in-place-step 𝓤 H A mem run κ given g first second e d = both-determined 𝓤 _ _ _ _ _ _
 
 -- ---- v830
-pub one-v830-pulses : OneResult v830-pulses.Post
-one-v830-pulses κ given first second e d p q = determined p q
-
-pub one-v830-veto-line : OneResult v830-veto-line.Post
-one-v830-veto-line κ given first second e d p q = determined p q
-
-pub one-v830-test : OneResult v830-test.Post
-one-v830-test κ given first second e d p q = determined p q
-
-pub one-v830-clear-line : OneResult v830-clear-line.Post
-one-v830-clear-line κ given first second e d p q = determined p q
-
-pub one-v830-trigger-line : OneOutcome v830-trigger-line.Post (λ κ e. now (e .1 .0))
-one-v830-trigger-line κ given first second e d p q = (determined (p .0) (q .0), determined (p .1) (q .1))
-
-pub one-v830-access : OneOutcome v830-access.Post (λ κ e. now (e .1 .0))
-one-v830-access κ given first second e d p q = (determined (p .0) (q .0), determined (p .1) (q .1))
-
 pub one-v830-step : OneOutcome v830-step.Post (λ κ e. now (e .1 .0))
 one-v830-step κ given first second e d p q = (determined (p .0) (q .0), determined (p .1) (q .1))
 
 pub one-v830-start : OneResult v830-start.Post
 one-v830-start κ given first second e d p q = determined p q
+
+pub one-v830-gate : OneResult v830-gate.Post
+one-v830-gate κ given first second e d p q = determined p q
+
+-- the inner door, of what it is given where it may be called
+pub one-v830-step-formed : OneOutcome v830-step-formed.Post (λ κ e. now (e .1 .0))
+one-v830-step-formed κ given first second e d p q = (determined (p .0) (q .0), determined (p .1) (q .1))
+
+-- ---- meb
+pub one-meb-empty : OneResult meb-empty.Post
+one-meb-empty κ given first second e d p q = determined p q
+
+pub one-meb-emptied : OneResult meb-emptied.Post
+one-meb-emptied κ given first second e d p q = determined p q
+
+pub one-meb-fits : OneResult meb-fits.Post
+one-meb-fits κ given first second e d p q = determined p q
+
+pub one-meb-free : OneResult meb-free.Post
+one-meb-free κ given first second e d p q = determined p q
+
+pub one-meb-hand-out : OneResult meb-hand-out.Post
+one-meb-hand-out κ given first second e d p q = determined p q
+
+pub one-meb-put : OneOutcome meb-put.Post (λ κ e. now (e .1 .0))
+one-meb-put κ given first second e d p q = (determined (p .0) (q .0), determined (p .1) (q .1))
+
+-- ---- logged
+pub one-logged-access-for : OneResult logged-access-for.Post
+one-logged-access-for κ given first second e d p q = determined p q
+
+pub one-logged-call-830-of : OneResult logged-call-830-of.Post
+one-logged-call-830-of κ given first second e d p q = determined p q
 
 -- ---- modules
 pub one-modules-act : OneOutcome modules-act.Post (λ κ e. now (e .1 .0))
@@ -302,15 +324,12 @@ one-modules-begin κ given first second e d p q = determined p q
 pub one-modules-lent : OneResult modules-lent.Post
 one-modules-lent κ given first second e d p q = determined (p .0) (q .0)
 
-pub one-modules-call-830-of : OneResult modules-call-830-of.Post
-one-modules-call-830-of κ given first second e d p q = determined p q
-
 -- ---- night
 pub one-night-begin : OneResult night-begin.Post
 one-night-begin κ given first second e d p q = determined p q
 
-pub one-night-take : OneOutcome night-take.Post (λ κ e. now (e .1 .0))
-one-night-take κ given first second e d p q = (determined (p .0) (q .0), determined (p .1) (q .1))
+pub one-night-put-heading : OneOutcome night-put-heading.Post (λ κ e. now (e .0))
+one-night-put-heading κ given first second e d p q = (determined (p .0) (q .0), determined (p .1) (q .1))
 
 -- two slices are lent to it
 pub one-night-replay : OneOutcome {A = λ κ. List ℕ × List ℕ} night-replay.Post (λ κ e. (now (e .1 .0), now (e .1 .1 .1 .1 .0)))

@@ -1,4 +1,5 @@
 // Replays a night on a V830: the answer and the value read of each entry of a bench log.
+ghost use mathlib.Core.Path.{_≡_};
 ghost use Prim.Native.Nat.{_≤_};
 ghost use lib.ListN.{length};
 use night::Next;
@@ -11,7 +12,8 @@ struct Course {
     night: Night,
 }
 
-// Goes on behind the part that was shown: reads on where it wants bytes, ends where nothing is next.
+// Goes on behind the part that was shown: reads on where it wants bytes, ends where nothing is next. A night that is
+// refused would end too; one that begins here never is (`begun-passes`, `run-keeps`).
 fn gone_on(buf: &mut [u8], l: Listing, next: Next) -> Listing
     requires { ⌜ (l .used ≤ l .have) × (l .have ≤ length (now buf)) ⌝ }
     ensures { λ r. ⌜ (r .used ≤ r .have) × (r .have ≤ length (now (buf .entry))) ⌝ }
@@ -19,14 +21,22 @@ fn gone_on(buf: &mut [u8], l: Listing, next: Next) -> Listing
     match next {
         Next::Lines => l,
         Next::Bytes => stdio::read_on(buf, l),
-        Next::Nothing => Listing {
-            used: l.used,
-            have: l.have,
-            ended: l.ended,
-            base: l.base,
-            at: l.at,
-            more: false,
-        },
+        Next::Nothing => ended(l),
+        Next::Refused(_) => ended(l),
+    }
+}
+
+// A listing that is at its end.
+fn ended(l: Listing) -> Listing
+    ensures { λ r. ⌜ (r .used ≡ l .used) × (r .have ≡ l .have) ⌝ }
+{
+    Listing {
+        used: l.used,
+        have: l.have,
+        ended: l.ended,
+        base: l.base,
+        at: l.at,
+        more: false,
     }
 }
 
@@ -52,7 +62,7 @@ fn turn(buf: &mut [u8], out: &mut [u8], memory: &mut [u32], course: Course) -> C
 
 // The whole listing.
 fn run(buf: &mut [u8], out: &mut [u8], memory: &mut [u32]) {
-    let at = text::put_text(out, 0, b"entry answer value\n");
+    let at = night::put_heading(out, 0);
     stdio::flush(out, at);
     let mut course = Course {
         listing: stdio::begin(0),
@@ -65,10 +75,10 @@ fn run(buf: &mut [u8], out: &mut [u8], memory: &mut [u32]) {
     }
 }
 
-// The two buffers, of 64 KiB each, and the 16,384 words of the event memory.
+// The two buffers, of 64 KiB for the log and 256 KiB for the listing, and the 16,384 words of the event memory.
 fn main() {
     let mut buf = [0u8; 65536];
-    let mut out = [0u8; 65536];
+    let mut out = [0u8; 262144];
     let mut memory = [0u32; 16384];
     run(&mut buf, &mut out, &mut memory);
 }

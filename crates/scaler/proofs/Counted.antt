@@ -9,16 +9,12 @@ use Rattle.count.specs.Counter.{iterate}
 use Rattle.count.specs.Chain.{tickChain, chainValue, Parts}
 use Rattle.count.proofs.Carry.{chain-ticks}
 use Rattle.count.proofs.Repeats.{iterate-add}
-use Rattle.scaler.proofs.Runs.{countsOf}
+use Rattle.scaler.specs.Held.{countsOf, held}
 
 -- the counts `before` became `after`, and those of the run were ticked m times
 pub record Counted (w : ℕ) (run : List ℕ) (m : ℕ) (before after : List ℕ) : Type 0 where
   pub size : length after ≡ length before
   pub ticks : countsOf run after ≡ iterate m (tickChain w) (countsOf run before)
-
--- what a run holds, as one number
-abbrev pub held : ℕ → List ℕ → List ℕ → ℕ
-held w run counts = chainValue w (countsOf run counts)
 
 module _ (w : ℕ) (run : List ℕ) where
   pub counted-none : (counts : List ℕ) → Counted w run 0 counts counts

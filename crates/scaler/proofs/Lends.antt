@@ -92,13 +92,13 @@ module _ (K : Kind) (P : Par) where
   stayed = (stay-dropped (plain (λ _. S)) yes, (stay-dropped (plain (λ _. I.the-row)) yes, (stay-dropped (plain (λ _. P .row)) yes, tt)))
 
   -- ---- the result, of what the call returned and what the reference had last
-  abbrev put : K .Lent → Interrupter → K .Outcome
-  put r h = K .make (K .lent-answer r) (K .lent-after r) h
+  abbrev handedBack : K .Lent → Interrupter → K .Outcome
+  handedBack r h = K .make (K .lent-answer r) (K .lent-after r) h
 
   abbrev ov : K .Lent → Interrupter → Val
   ov r h = outcome-val K (K .lent-answer r) (K .lent-after r) h
 
-  is-o : (r : K .Lent) (h : Interrupter) (w : Val) → Is L r (w ∷ []) → Is I.the-row h (hv h ∷ []) → Is O (put r h) (ov r h ∷ [])
+  is-o : (r : K .Lent) (h : Interrupter) (w : Val) → Is L r (w ∷ []) → Is I.the-row h (hv h ∷ []) → Is O (handedBack r h) (ov r h ∷ [])
   is-o r h w is ih = subst (λ d. Is (Struct (shape (outcome K))) d (ov r h ∷ [])) (sym (K .make-is (K .lent-answer r) (K .lent-after r) h)) (_, (refl, (LL.owed (lent K) (lent-laws K) r _ is .0, (LL.owed (lent K) (lent-laws K) r _ is .1 .0, (ih, tt)))))
 
   -- ---- the theorem
@@ -148,14 +148,14 @@ module _ (K : Kind) (P : Par) where
       abbrev Said : (ν l : ℕ) (γ : GName) → K .Lent → Lasts byLoan (κs ν) (y ν l γ) → Type 0
       Said ν l γ r ws = (r ≡ K .lentOf (G s h p)) × (ws .1 .0 ≡ K .interrupter (G s h p))
 
-      given-back : (r : K .Lent) (h′ : Interrupter) → r ≡ K .lentOf (G s h p) → h′ ≡ K .interrupter (G s h p) → put r h′ ≡ G s h p
-      given-back r h′ e f = (λ i. put (e i) (f i)) ∙ K .whole (G s h p)
+      given-back : (r : K .Lent) (h′ : Interrupter) → r ≡ K .lentOf (G s h p) → h′ ≡ K .interrupter (G s h p) → handedBack r h′ ≡ G s h p
+      given-back r h′ e f = (λ i. handedBack (e i) (f i)) ∙ K .whole (G s h p)
 
-      exits : (r : K .Lent) (h′ : Interrupter) → put r h′ ≡ G s h p → Is O (put r h′) (ov r h′ ∷ []) → ent 𝓤 (⋆ 𝓤 H A []) (Post (ov r h′))
+      exits : (r : K .Lent) (h′ : Interrupter) → handedBack r h′ ≡ G s h p → Is O (handedBack r h′) (ov r h′ ∷ []) → ent 𝓤 (⋆ 𝓤 H A []) (Post (ov r h′))
       exits r h′ e is =
-          qed W [] ∵ suffices ! _ (ends-at 𝓤 H A byValue stayed d W ((tt, tt, tt, a, at), g) (ov r h′) (put r h′) (last-of (given K) s, (tt, (last-of P p, tt))) (tt, (tt, (tt, tt)))) $
-          beside ! (shown a g (put r h′) (last-of (given K) s, (tt, (last-of P p, tt))) e) $
-          nothing ! $ frame ! $ nothing ! $ nothing ! $ fjoin ! $ nothing ! $ fjoin ! $ nothing ! $ fjoin ! $ frame ! $ owned ! O (Is O) (LL.makes (outcome K) (outcome-plains K) 𝓤 H A) (put r h′) _ is $ done !
+          qed W [] ∵ suffices ! _ (ends-at 𝓤 H A byValue stayed d W ((tt, tt, tt, a, at), g) (ov r h′) (handedBack r h′) (last-of (given K) s, (tt, (last-of P p, tt))) (tt, (tt, (tt, tt)))) $
+          beside ! (shown a g (handedBack r h′) (last-of (given K) s, (tt, (last-of P p, tt))) e) $
+          nothing ! $ frame ! $ nothing ! $ nothing ! $ fjoin ! $ nothing ! $ fjoin ! $ nothing ! $ fjoin ! $ frame ! $ owned ! O (Is O) (LL.makes (outcome K) (outcome-plains K) 𝓤 H A) (handedBack r h′) _ is $ done !
 
       module _ (C : Calls 𝓤 H) (Λ : Loops 𝓤 H) (fm : FmC 𝓤 H (W .laws) C) (known : Triple 𝓤 (C callee) Loan) where
         walk : Are (S ∷ I.the-row ∷ P .row ∷ []) (Ises (S ∷ I.the-row ∷ P .row ∷ [])) a at → ent 𝓤 (onEntry 𝓤 H A (byValue .signature) tt tt a at) (WpFn 𝓤 H C Λ (fnOf callee) (sv s ∷ hv h ∷ P .val p ∷ []) Post)
@@ -179,7 +179,7 @@ module _ (K : Kind) (P : Par) where
             drop ! $ move ! (0 ∷ 2 ∷ 1 ∷ []) $ back ! tt l₄ γ (ws .1 .0) (λ ih.
             -- [j; _7; …; the reference's local; …; l; …; what frees j; p; …; i; …; s; …; room for the result; …; true]
             assigns ! (of-opd ! (load ! (from ! (stop !)) (look ! 0 refl))) (from ! (stop !)) (init ! 1 refl (LL.lawful I.the-type I′.the-laws 𝓤 H A W .typed (ws .1 .0) _ ih .0)) $
-            assigns ! (agg ! (and-then ! (load ! (from ! (fld ! refl (stop !))) (look-in ! 5 (sub ! 0 refl (whole !)))) (and-then ! (load ! (from ! (fld ! refl (stop !))) (look-in ! 5 (sub ! 1 refl (whole !)))) (and-then ! (load ! (from ! (stop !)) (look ! 1 refl)) (no-more !))))) (from ! (stop !)) (init ! 14 refl (LL.lawful (outcome K) (outcome-laws K) 𝓤 H A W .typed (put r (ws .1 .0)) _ (is-o r (ws .1 .0) w is ih) .0)) $
+            assigns ! (agg ! (and-then ! (load ! (from ! (fld ! refl (stop !))) (look-in ! 5 (sub ! 0 refl (whole !)))) (and-then ! (load ! (from ! (fld ! refl (stop !))) (look-in ! 5 (sub ! 1 refl (whole !)))) (and-then ! (load ! (from ! (stop !)) (look ! 1 refl)) (no-more !))))) (from ! (stop !)) (init ! 14 refl (LL.lawful (outcome K) (outcome-laws K) 𝓤 H A W .typed (handedBack r (ws .1 .0)) _ (is-o r (ws .1 .0) w is ih) .0)) $
             returns ! (look ! 14 refl) $ forget ! 0 refl $ forget ! 1 refl $ forget ! 3 refl $ forget ! 5 refl $ forget ! 8 refl $ forget ! 10 refl $ forget ! 12 refl $ forget ! 14 refl $
             move ! (14 ∷ 15 ∷ []) $ free1 ! $ move ! (12 ∷ 13 ∷ []) $ free1 ! $ move ! (10 ∷ 11 ∷ []) $ free1 ! $ move ! (8 ∷ 9 ∷ []) $ free1 ! $ move ! (0 ∷ 7 ∷ []) $ free1 ! $ move ! (4 ∷ 5 ∷ []) $ free1 ! $ move ! (2 ∷ 3 ∷ []) $ free1 ! $ free1 ! $ free0 ! $
             keep ! [] $ by ! (exits r (ws .1 .0) (given-back r (ws .1 .0) (e .0) (e .1)) (is-o r (ws .1 .0) w is ih)))))))))))))))))

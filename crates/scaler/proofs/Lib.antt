@@ -5,6 +5,7 @@ pub mod Counted
 pub mod Fair
 pub mod Refusals
 pub mod Untouched
+pub mod Formed
 pub mod Kind
 pub mod Rest
 pub mod Thin

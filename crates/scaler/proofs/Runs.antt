@@ -15,21 +15,13 @@ use Rattle.count.proofs.Carry.{on-carry}
 use Rattle.count.proofs.Mapping.{getD-map}
 use Rattle.bus.proofs.Places.{left-of, right-of}
 use Rattle.scaler.specs.Clock.{countOne, clocked}
+use Rattle.scaler.specs.Held.{path, countsOf}
 use Rattle.bus.proofs.Choices.{cond-same}
-
--- the counts of some channels, in their order
-abbrev pub countsOf : List ℕ → List ℕ → List ℕ
-countsOf run counts = map (λ k. getD counts k 0) run
 
 -- whether a channel is one of these
 abbrev pub among : ℕ → List ℕ → Bool
 among k [] = false
 among k (c ∷ cs) = eqb k c || among k cs
-
--- the n channels from k on, each the one after the one before it
-unfoldable pub path : (ℕ → ℕ) → ℕ → ℕ → List ℕ
-path after zero k = []
-path after (suc n) k = k ∷ path after n (after k)
 
 -- n + 1 channels from k on are a run: each but the last is joined to the one after it, no channel comes twice, and each is one of m
 unfoldable pub Run : (ℕ → Bool) → (ℕ → ℕ) → ℕ → ℕ → ℕ → Type 0

@@ -5,6 +5,8 @@ ghost use Rattle.scaler.specs.Orders.{fresh, inhibited, zeroed, vetoed, 
 use bus::Access;
 use bus::interrupter::Interrupter;
 
+pub mod rows;
+
 // Sixteen counts, the lower-half latch of each, the front veto line and the VME veto.
 pub struct Scales {
     pub counts: [u32; 16],

@@ -100,15 +100,29 @@ unfolding digitsOf
 next-count k n m true e f q = rw (e, f)
 next-count k n m false e f q = rw (e, f, q) (length-append (digitsOf k (n / 10)) ((48 + m % 10) ∷ []) ∙ sym (length-append (digitsOf k (n / 10)) ((48 + n % 10) ∷ [])))
 
-pub decimal-next : (n : ℕ) → ((n + 1) % 10 ≡ 0 → ⊥) → length (decimal (n + 1)) ≡ length (decimal n)
-unfolding decimal
-decimal-next n h =
+count-next : (k n : ℕ) → ((n + 1) % 10 ≡ 0 → ⊥) → length (digitsOf (suc k) (n + 1)) ≡ length (digitsOf (suc k) n)
+count-next k n h =
     let q : (n + 1) / 10 ≡ n / 10 = omega (arith, h) in
     go (ltb n 10) refl q
   where
-    go : (b : Bool) → ltb n 10 ≡ b → (n + 1) / 10 ≡ n / 10 → length (digitsOf 20 (n + 1)) ≡ length (digitsOf 20 n)
-    go true e q = next-count 19 n (n + 1) true e (lt-ltb (n + 1) 10 (omega (arith, ltb-true n 10 e))) q
-    go false e q = next-count 19 n (n + 1) false e (le-ltb (n + 1) 10 (omega (arith, ltb-false n 10 e))) q
+    go : (b : Bool) → ltb n 10 ≡ b → (n + 1) / 10 ≡ n / 10 → length (digitsOf (suc k) (n + 1)) ≡ length (digitsOf (suc k) n)
+    go true e q = next-count k n (n + 1) true e (lt-ltb (n + 1) 10 (omega (arith, ltb-true n 10 e))) q
+    go false e q = next-count k n (n + 1) false e (le-ltb (n + 1) 10 (omega (arith, ltb-false n 10 e))) q
+
+pub decimal-next : (n : ℕ) → ((n + 1) % 10 ≡ 0 → ⊥) → length (decimal (n + 1)) ≡ length (decimal n)
+unfolding decimal
+decimal-next n h = count-next 19 n h
+
+-- the same of a number of two digits or more whose last one goes round, where the one before it does not
+tens-count : (k n : ℕ) → 10 ≤ n → length (digitsOf (suc k) n) ≡ length (digitsOf k (n / 10)) + 1
+unfolding digitsOf
+tens-count k n h = rw (le-ltb n 10 h) (length-append (digitsOf k (n / 10)) ((48 + n % 10) ∷ []))
+
+pub decimal-round : (n : ℕ) → 10 ≤ n → n % 10 ≡ 9 → ((n / 10 + 1) % 10 ≡ 0 → ⊥) → length (decimal (n + 1)) ≡ length (decimal n)
+unfolding decimal
+decimal-round n h e t =
+    let q : (n + 1) / 10 ≡ n / 10 + 1 = omega arith in
+    tens-count 19 (n + 1) (omega arith) ∙ ap (λ (x : ℕ). length (digitsOf 19 x) + 1) q ∙ ap (λ (x : ℕ). x + 1) (count-next 18 (n / 10) t) ∙ sym (tens-count 19 n h)
 
 -- a number has a digit at least, and a line two bytes a number
 pub decimal-some : (n : ℕ) → 1 ≤ length (decimal n)

@@ -42,7 +42,7 @@ numbers560 entry t =
 abbrev pub firstOf830 : Answer → V830 → List ℕ
 firstOf830 answer s =
     numberOf answer ∷ valueOf answer
-    ∷ s .geo ∷ s .control ∷ s .enable ∷ s .triggers ∷ oneOrZero (s .veto)
+    ∷ s .geo ∷ s .control ∷ s .enable ∷ s .tallies .triggers ∷ oneOrZero (s .veto)
     ∷ s .store .capacity .0 ∷ s .store .first ∷ s .store .stored .0 ∷ []
 
 -- `entry answer .. stored c0 .. c31`

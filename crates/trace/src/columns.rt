@@ -99,7 +99,7 @@ fn first_words_830(answer: Answer, v: V830) -> [u32; 10]
         v.geo,
         v.control as u32,
         v.enable,
-        v.triggers,
+        v.tallies.triggers,
         veto,
         capacity.0,
         store.first,

@@ -3,26 +3,15 @@
 use Prim.Native.Nat.{ℕ, zero, suc, _+_, _-_, _%_, _≤_, _<_}
 use mathlib.Core.Path.{_≡_, refl, sym, ap, subst, _∙_}
 use mathlib.Core.Bool.{true, false, false≢true}
-use mathlib.Core.List.{List}
 use native.Mathlib.Omega.{arith}
 use native.Mathlib.Decide.{decLt}
 use borrow.Author.Tests.{ne-eqb, eq-eqb}
 use lib.Dec.{eqb}
-use Rattle.scaler.proofs.Runs.{or-true, among, path, Run}
+use Rattle.scaler.specs.Held.{path}
+use Rattle.scaler.proofs.Runs.{or-true, among, Run}
 use Rattle.v260.specs.declared.Switches.{Switches}
 use Rattle.v260.specs.Counting.{after, isJoined}
-
--- a scale of k + 1 channels from channel f on: the first is not joined to the one before it, the others are, and the channel behind them is not
-pub record Joined (switches : Switches) (f k : ℕ) : Type 0 where
-  pub first : f < 16
-  pub many : k < 16
-  pub own-input : isJoined switches f ≡ false
-  pub joined : (j : ℕ) → 0 < j → j ≤ k → isJoined switches ((f + j) % 16) ≡ true
-  pub ends : isJoined switches ((f + suc k) % 16) ≡ false
-
--- its channels, the lowest part first
-abbrev pub channels : ℕ → ℕ → List ℕ
-channels f k = path after (suc k) f
+use Rattle.v260.specs.Joined.{Joined, channels}
 
 not-among : (n c x : ℕ) → c < 16 → ((i : ℕ) → i < n → x ≡ (c + i) % 16 → ⊥) → among x (path after n c) ≡ false
 unfolding path

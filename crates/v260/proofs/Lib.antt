@@ -4,4 +4,5 @@ pub mod Channels
 pub mod Stepping
 pub mod ScaleHolds
 pub mod Numbering
+pub mod Forms
 pub mod Untouched

@@ -16,28 +16,24 @@ use Rattle.scaler.specs.Orders.{inhibited}
 use Rattle.bus.specs.Table.{lookUp}
 use Rattle.bus.proofs.Choices.{either-way, by-test}
 use Rattle.bus.proofs.Numbers.{each-row}
-use Rattle.scaler.proofs.Fair.{Module, Does, increases, clearing, stays, Reached, Scale, Fair, fair-refused, fair-inhibited, Own}
-use Rattle.scaler.proofs.Runs.{path, run-ticks, others-stay, length-clocked, single-ticks}
+use Rattle.scaler.proofs.Fair.{Inside, Does, increases, clearing, stays, Reached, Scale, Fair, fair-refused, fair-inhibited, Own}
+use Rattle.scaler.specs.Held.{path}
+use Rattle.scaler.proofs.Runs.{run-ticks, others-stay, length-clocked, single-ticks}
 use Rattle.v260.specs.declared.Switches.{Switches}
 use Rattle.v260.specs.declared.V260.{V260}
 use Rattle.v260.specs.declared.Outcome.{Outcome}
-use Rattle.v260.specs.Outcomes.{refused, done, isFormed}
+use Rattle.v260.specs.Outcomes.{refused, done}
 use Rattle.v260.specs.Counting.{after, isJoined, pulsed, counted, pulse, tested}
 use Rattle.v260.specs.Registers.{registers, obey, performed}
-use Rattle.v260.specs.Calls.{stepOf}
-use Rattle.v260.proofs.Channels.{Joined, channels, scale-run, scale-shut, scale-other}
+use Rattle.v260.specs.Module.{v260}
+use Rattle.v260.specs.Joined.{Joined, channels}
+use Rattle.v260.proofs.Channels.{scale-run, scale-shut, scale-other}
 
--- the module
-abbrev pub v260 : Module V260 Outcome Switches
-v260 =
+-- what is inside it
+abbrev pub inside : Inside v260 Switches
+inside =
     record {
-      answer = λ o. o .answer;
-      state = λ o. o .state;
-      interrupter = λ o. o .interrupter;
-      scales = λ s. s .scales;
       joins = λ s. s .switches;
-      registers = registers;
-      step = stepOf;
       pulse = pulse;
       ignores = λ s x. isJoined (s .switches) x;
       clocks = λ s x. pulsed (s .switches) (s .scales .counts) x;
@@ -46,14 +42,13 @@ v260 =
       counted-answer = λ l o. refl;
       counted-scales = λ l o. refl;
       counted-ignores = λ l o x. refl;
-      formed = isFormed;
       refused = refused;
       done = done 0;
       tested = tested;
       ordered = obey;
       performed = performed;
       refused-is = λ why s i. (refl, refl, refl);
-      done-is = λ s i. (refl, refl);
+      done-is = λ s i. (refl, refl, refl);
       pulses-are = λ s i x n. refl;
       line-is = λ s i on. refl;
       test-is = λ s i. refl;
@@ -63,15 +58,15 @@ v260 =
     }
 
 -- what each row of its table does
-pub row-does : (s : V260) (i : Interrupter) (a : Access) → Reached v260 s i a (lookUp 0 registers a)
+pub row-does : (s : V260) (i : Interrupter) (a : Access) → Reached inside s i a (lookUp 0 registers a)
 row-does s i a =
-    each-row (Reached v260 s i a) registers a (λ why d. tt)
+    each-row (Reached inside s i a) registers a (λ why d. tt)
     (λ place. stays _ _ refl (refl, refl))
     (λ place. increases)
     (λ place. stays _ _ refl (refl, refl))
     (λ place. stays _ _ refl (refl, refl))
     (λ place. clearing _ refl)
-    (λ place. either-way (Does v260 s i false false) (eqb (a .width) 32) _ _ (stays _ _ refl (refl, refl)) (stays _ _ refl (refl, refl)))
+    (λ place. either-way (Does inside s i false false) (eqb (a .width) 32) _ _ (stays _ _ refl (refl, refl)) (stays _ _ refl (refl, refl)))
     (λ place. stays _ _ refl (refl, refl))
     (λ place. stays _ _ refl (refl, refl))
     (λ place. stays _ _ refl (refl, refl))
@@ -85,7 +80,7 @@ pub record Fit (f k : ℕ) (s : V260) : Type 0 where
   pub size : length (s .scales .counts) ≡ 16
 
 module _ (f k : ℕ) where
-  pub scale : Scale v260 24 (channels f k) f (Fit f k)
+  pub scale : Scale inside 24 (channels f k) f (Fit f k)
   scale =
       record {
         own-input = λ s g. g .joined .own-input;
@@ -98,7 +93,7 @@ module _ (f k : ℕ) where
 
   module _ (s : V260) (i : Interrupter) (g : Fit f k s) where
     abbrev Fairly : ℕ → Outcome → Type 0
-    Fairly p o = Fair v260 24 (channels f k) f (Fit f k) p s o
+    Fairly p o = Fair inside 24 (channels f k) f (Fit f k) p s o
 
     -- without a joined channel the scale is a single one
     single : (k : ℕ) → Joined (s .switches) f k → s .switches .joined ≡ 0 → k ≡ 0
@@ -122,11 +117,11 @@ module _ (f k : ℕ) where
     fair-tested =
         by-test (Fairly 1) (eqb (s .switches .joined) 0) _ (refused NoMeaning s i)
         (λ e. by-test (Fairly 1) (inhibited (s .scales)) (done 0 s i) _
-        (λ h. fair-inhibited v260 24 (channels f k) f (Fit f k) 1 s (done 0 s i) g refl h)
+        (λ h. fair-inhibited inside 24 (channels f k) f (Fit f k) 1 s (done 0 s i) g refl h)
         (λ h. fair-each (eqb-true (s .switches .joined) 0 e) h))
-        (λ _. fair-refused v260 24 (channels f k) f (Fit f k) 1 s (refused NoMeaning s i) g refl refl)
+        (λ _. fair-refused inside 24 (channels f k) f (Fit f k) 1 s (refused NoMeaning s i) g refl refl)
 
-  pub own : Own v260 24 (channels f k) f (Fit f k)
+  pub own : Own inside 24 (channels f k) f (Fit f k)
   own =
       record {
         fit-stays = λ s t q e g. record { joined = subst (λ (w : Switches). Joined w f k) (sym q) (g .joined); size = ap length e ∙ g .size };

@@ -64,10 +64,14 @@ pulse k o =
 abbrev pub pulsesOf : V260 → Interrupter → ℕ → ℕ → Outcome
 pulsesOf s i k n = formed s i (unless (ltb k 16) NoChannel s i (iterate n (pulse k) (done 0 s i)))
 
+-- whether no channel is joined
+abbrev pub unjoined : V260 → Bool
+unjoined s = eqb (s .switches .joined) 0
+
 -- TEST and Scale Increase; 4: "with any channel joined"; "TEST adds one to each channel", and nothing when inhibited
 abbrev pub tested : V260 → Interrupter → Outcome
 tested s i =
-    unless (eqb (s .switches .joined) 0) NoMeaning s i
+    unless (unjoined s) NoMeaning s i
     (cond (inhibited (s .scales)) (done 0 s i) (counted (map (next 24) (s .scales .counts)) s i))
 
 abbrev pub testOf : V260 → Interrupter → Outcome

@@ -15,6 +15,7 @@ use Rattle.scaler.specs.declared.Order.{Order}
 use Rattle.scaler.specs.declared.Order.the-variants.{ClearAccess, VetoSet, VetoReset, Enable, Disable, RemoveRequest}
 use Rattle.scaler.specs.declared.Scales.{Scales}
 use Rattle.scaler.specs.Orders.{inhibited, obeyed}
+use Rattle.scaler.specs.Rows.{status, scaleIncrease, vetoReset, vetoSet, clearAccess, scaleCounters, lowerHalves, clearInterrupt, disableInterrupt, enableInterrupt, levelRegister, vectorRegister}
 use Rattle.v260.specs.declared.V260.{V260}
 use Rattle.v260.specs.declared.Outcome.{Outcome}
 use Rattle.v260.specs.Outcomes.{refused, done, formed, scaled}
@@ -24,19 +25,19 @@ use Rattle.v260.specs.Counting.{tested}
 -- entry covers its offset (V260 and V560: 16 or 32 bits) and, there, offset + 2 (16 only)". Rows 7, 13, 14 and 15 have no offset.
 abbrev pub registers : List Row
 registers =
-    row 0x58 0x58 16 1  --  0 Interrupt jumper status
-    ∷ row 0x56 0x56 16 3  --  1 Scale increase
-    ∷ row 0x54 0x54 16 3  --  2 INHIBIT reset
-    ∷ row 0x52 0x52 16 3  --  3 INHIBIT set
-    ∷ row 0x50 0x50 16 3  --  4 CLEAR scales
-    ∷ row 0x10 0x4C 48 1  --  5 Counters 0 to 15
-    ∷ row 0x12 0x4E 16 1  --  6 their lower halves
-    ∷ row 1 0 0 0  --  7 Not used
-    ∷ row 0x0C 0x0C 16 3  --  8 CLEAR VME interrupt
-    ∷ row 0x0A 0x0A 16 3  --  9 DISABLE VME interrupt
-    ∷ row 0x08 0x08 16 3  -- 10 ENABLE VME interrupt
-    ∷ row 0x06 0x06 16 1  -- 11 Interrupt level
-    ∷ row 0x04 0x04 16 2  -- 12 Interrupt vector
+    row 0x58 0x58 16 1  -- Interrupt jumper status
+    ∷ row 0x56 0x56 16 3  -- Scale increase
+    ∷ row 0x54 0x54 16 3  -- INHIBIT reset
+    ∷ row 0x52 0x52 16 3  -- INHIBIT set
+    ∷ row 0x50 0x50 16 3  -- CLEAR scales
+    ∷ row 0x10 0x4C 48 1  -- Counters 0 to 15
+    ∷ row 0x12 0x4E 16 1  -- their lower halves
+    ∷ row 1 0 0 0  -- Not used
+    ∷ row 0x0C 0x0C 16 3  -- CLEAR VME interrupt
+    ∷ row 0x0A 0x0A 16 3  -- DISABLE VME interrupt
+    ∷ row 0x08 0x08 16 3  -- ENABLE VME interrupt
+    ∷ row 0x06 0x06 16 1  -- Interrupt level
+    ∷ row 0x04 0x04 16 2  -- Interrupt vector
     ∷ row 1 0 0 0
     ∷ row 1 0 0 0
     ∷ row 1 0 0 0
@@ -72,18 +73,18 @@ lowerAt k s i = done (getD (s .scales .latches) k 0 % 0x10000) s i
 -- vector eight (4.12); 1: there is no other row
 abbrev pub performed : ℕ → ℕ → V260 → Interrupter → Access → Outcome
 performed at place s i a =
-    cond (eqb at 0) (done (s .switches .interrupts) s i)
-    (cond (eqb at 1) (tested s i)
-    (cond (eqb at 2) (obey VetoReset s i)
-    (cond (eqb at 3) (obey VetoSet s i)
-    (cond (eqb at 4) (obey ClearAccess s i)
-    (cond (eqb at 5) (counterAt place s i (a .width))
-    (cond (eqb at 6) (lowerAt place s i)
-    (cond (eqb at 8) (obey RemoveRequest s i)
-    (cond (eqb at 9) (obey Disable s i)
-    (cond (eqb at 10) (obey Enable s i)
-    (cond (eqb at 11) (done (i .level) s i)
-    (cond (eqb at 12) (done 0 s (vectored (a .«data» % 0x100) i))
+    cond (eqb at status) (done (s .switches .interrupts) s i)
+    (cond (eqb at scaleIncrease) (tested s i)
+    (cond (eqb at vetoReset) (obey VetoReset s i)
+    (cond (eqb at vetoSet) (obey VetoSet s i)
+    (cond (eqb at clearAccess) (obey ClearAccess s i)
+    (cond (eqb at scaleCounters) (counterAt place s i (a .width))
+    (cond (eqb at lowerHalves) (lowerAt place s i)
+    (cond (eqb at clearInterrupt) (obey RemoveRequest s i)
+    (cond (eqb at disableInterrupt) (obey Disable s i)
+    (cond (eqb at enableInterrupt) (obey Enable s i)
+    (cond (eqb at levelRegister) (done (i .level) s i)
+    (cond (eqb at vectorRegister) (done 0 s (vectored (a .«data» % 0x100) i))
     (refused NotInTable s i))))))))))))
 
 -- 12, then 1, 2 and 3 by the table, then 4 (Scale Increase) and the deed

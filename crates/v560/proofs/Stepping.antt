@@ -13,31 +13,24 @@ use Rattle.count.proofs.Bits.{no-bit}
 use Rattle.bus.specs.declared.Access.{Access}
 use Rattle.bus.specs.declared.Answer.the-variants.{NoMeaning}
 use Rattle.bus.specs.declared.interrupter.Interrupter.{Interrupter}
-use Rattle.bus.specs.Interrupting.{wellFormed}
 use Rattle.bus.proofs.Places.{right-of}
 use Rattle.bus.specs.Table.{lookUp}
 use Rattle.bus.proofs.Choices.{and-false, either-way}
 use Rattle.bus.proofs.Numbers.{each-row}
-use Rattle.scaler.proofs.Fair.{Module, Does, increases, clearing, stays, Reached, Scale, Fair, fair-refused, Own}
-use Rattle.scaler.proofs.Runs.{among, apart, countsOf, path, Run, run-ticks, others-stay, length-clocked}
+use Rattle.scaler.proofs.Fair.{Inside, Does, increases, clearing, stays, Reached, Scale, Fair, fair-refused, Own}
+use Rattle.scaler.specs.Held.{path, countsOf}
+use Rattle.scaler.proofs.Runs.{among, apart, Run, run-ticks, others-stay, length-clocked}
 use Rattle.v560.specs.declared.V560.{V560}
-use Rattle.v560.specs.declared.Outcome.{Outcome}
 use Rattle.v560.specs.Outcomes.{refused, done}
-use Rattle.v560.specs.Counting.{isJoined, isLow, isHigh, pulsed, counted, pulse, tested}
+use Rattle.v560.specs.Counting.{isJoined, section, isLow, isHigh, pulsed, counted, pulse, tested}
 use Rattle.v560.specs.Registers.{registers, obey, requestFor, levelFor, vectorFor, performed}
-use Rattle.v560.specs.Calls.{stepOf}
+use Rattle.v560.specs.Module.{v560}
 
--- the module
-abbrev pub v560 : Module V560 Outcome ℕ
-v560 =
+-- what is inside it
+abbrev pub inside : Inside v560 ℕ
+inside =
     record {
-      answer = λ o. o .answer;
-      state = λ o. o .state;
-      interrupter = λ o. o .interrupter;
-      scales = λ s. s .scales;
       joins = λ s. s .joined;
-      registers = registers;
-      step = stepOf;
       pulse = pulse;
       ignores = λ s x. isHigh (s .joined) x;
       clocks = λ s x. pulsed (s .joined) (s .scales .counts) x;
@@ -46,14 +39,13 @@ v560 =
       counted-answer = λ l o. refl;
       counted-scales = λ l o. refl;
       counted-ignores = λ l o x. refl;
-      formed = λ s i. wellFormed i;
       refused = refused;
       done = done 0;
       tested = tested;
       ordered = obey;
       performed = performed;
       refused-is = λ why s i. (refl, refl, refl);
-      done-is = λ s i. (refl, refl);
+      done-is = λ s i. (refl, refl, refl);
       pulses-are = λ s i x n. refl;
       line-is = λ s i on. refl;
       test-is = λ s i. refl;
@@ -64,21 +56,21 @@ v560 =
 
 -- a register that is read or written
 register-does : (s : V560) (i : Interrupter) (word : ℕ) (b : Bool)
-    → Does v560 s i false false (requestFor b s i word) × Does v560 s i false false (levelFor b s i word) × Does v560 s i false false (vectorFor b s i word)
+    → Does inside s i false false (requestFor b s i word) × Does inside s i false false (levelFor b s i word) × Does inside s i false false (vectorFor b s i word)
 register-does s i word true = (stays _ _ refl (refl, refl), stays _ _ refl (refl, refl), stays _ _ refl (refl, refl))
 register-does s i word false = (stays _ _ refl (refl, refl), stays _ _ refl (refl, refl), stays _ _ refl (refl, refl))
 
 -- what each row of its table does
-pub row-does : (s : V560) (i : Interrupter) (a : Access) → Reached v560 s i a (lookUp 0 registers a)
+pub row-does : (s : V560) (i : Interrupter) (a : Access) → Reached inside s i a (lookUp 0 registers a)
 row-does s i a =
     let r = register-does s i (a .«data») (a .write) in
-    each-row (Reached v560 s i a) registers a (λ why d. tt)
+    each-row (Reached inside s i a) registers a (λ why d. tt)
     (λ place. stays _ _ refl (refl, refl))
     (λ place. increases)
     (λ place. stays _ _ refl (refl, refl))
     (λ place. stays _ _ refl (refl, refl))
     (λ place. clearing _ refl)
-    (λ place. either-way (Does v560 s i false false) (eqb (a .width) 32) _ _ (stays _ _ refl (refl, refl)) (stays _ _ refl (refl, refl)))
+    (λ place. either-way (Does inside s i false false) (eqb (a .width) 32) _ _ (stays _ _ refl (refl, refl)) (stays _ _ refl (refl, refl)))
     (λ place. stays _ _ refl (refl, refl))
     (λ place. r .0)
     (λ place. stays _ _ refl (refl, refl))
@@ -86,10 +78,6 @@ row-does s i a =
     (λ place. stays _ _ refl (refl, refl))
     (λ place. r .1)
     (λ place. r .2)
-
--- the channels of section n, the low part first: 2n + 1, then 2n
-abbrev pub section : ℕ → List ℕ
-section n = (2 * n + 1) ∷ 2 * n ∷ []
 
 -- a module with sixteen counts that has section n, of eight, joined
 pub record Fit (n : ℕ) (s : V560) : Type 0 where
@@ -137,7 +125,7 @@ module _ (n : ℕ) where
         outside x d
         (λ q. absurd (false≢true (sym j ∙ rw (q, joined-at (2 * n) (omega arith)) (eq-eqb (2 * n % 2) 0 (omega arith)))))
 
-  pub scale : Scale v560 32 (section n) (2 * n + 1) (Fit n)
+  pub scale : Scale inside 32 (section n) (2 * n + 1) (Fit n)
   scale =
       record {
         own-input = own-input;
@@ -158,11 +146,11 @@ module _ (n : ℕ) where
         omega (arith, sym (no-bit 0 n 0 (omega arith) (omega arith)) ∙ b)
 
     -- TEST is refused
-    fair-tested : Fair v560 32 (section n) (2 * n + 1) (Fit n) 1 s (tested s i)
+    fair-tested : Fair inside 32 (section n) (2 * n + 1) (Fit n) 1 s (tested s i)
     fair-tested =
-        rw (ne-eqb (s .joined) 0 not-none) (fair-refused v560 32 (section n) (2 * n + 1) (Fit n) 1 s (refused NoMeaning s i) g refl refl)
+        rw (ne-eqb (s .joined) 0 not-none) (fair-refused inside 32 (section n) (2 * n + 1) (Fit n) 1 s (refused NoMeaning s i) g refl refl)
 
-  pub own : Own v560 32 (section n) (2 * n + 1) (Fit n)
+  pub own : Own inside 32 (section n) (2 * n + 1) (Fit n)
   own =
       record {
         fit-stays = λ s t q e g. record { among-eight = g .among-eight; joined = ap (λ (j : ℕ). eqb (bit j n) 1) q ∙ g .joined; size = ap length e ∙ g .size };

@@ -1,7 +1,7 @@
 -- Document 01, "Counting": the V560 (000, 3.1 and 3.2). Assumes nothing.
-use Prim.Native.Nat.{ℕ, _-_, _/_, _%_}
+use Prim.Native.Nat.{ℕ, _+_, _*_, _-_, _/_, _%_}
 use mathlib.Core.Bool.{Bool, cond, _&&_, _||_, not}
-use mathlib.Core.List.{List, map}
+use mathlib.Core.List.{List, [], _∷_, map}
 use lib.Dec.{eqb, ltb}
 use lib.ListN.{getD}
 use Rattle.count.specs.Counter.{next, bit, rises, iterate}
@@ -17,6 +17,10 @@ use Rattle.v560.specs.Outcomes.{done, unless, formed, scaled}
 -- section n is channels 2n and 2n+1; whether the section of channel k is joined
 abbrev pub isJoined : ℕ → ℕ → Bool
 isJoined joined k = eqb (bit joined (k / 2)) 1
+
+-- the channels of section n, the low part first: 2n + 1, then 2n
+abbrev pub section : ℕ → List ℕ
+section n = (2 * n + 1) ∷ 2 * n ∷ []
 
 -- "joined section n is a 64-bit scale, channel 2n+1 low, channel 2n high"
 abbrev pub isLow : ℕ → ℕ → Bool
@@ -57,10 +61,14 @@ pulse k o =
 abbrev pub pulsesOf : V560 → Interrupter → ℕ → ℕ → Outcome
 pulsesOf s i k n = formed s i (unless (ltb k 16) NoChannel s i (iterate n (pulse k) (done 0 s i)))
 
+-- whether no channel is joined
+abbrev pub unjoined : V560 → Bool
+unjoined s = eqb (s .joined) 0
+
 -- TEST and Scale Increase; 4: "with any channel joined"; "TEST adds one to each channel", and nothing when inhibited
 abbrev pub tested : V560 → Interrupter → Outcome
 tested s i =
-    unless (eqb (s .joined) 0) NoMeaning s i
+    unless (unjoined s) NoMeaning s i
     (cond (inhibited (s .scales)) (done 0 s i) (counted (map (next 32) (s .scales .counts)) s i))
 
 abbrev pub testOf : V560 → Interrupter → Outcome

@@ -15,6 +15,7 @@ use Rattle.scaler.specs.declared.Order.{Order}
 use Rattle.scaler.specs.declared.Order.the-variants.{ClearAccess, VetoSet, VetoReset, Enable, Disable, RemoveRequest}
 use Rattle.scaler.specs.declared.Scales.{Scales}
 use Rattle.scaler.specs.Orders.{inhibited, obeyed}
+use Rattle.scaler.specs.Rows.{status, scaleIncrease, vetoReset, vetoSet, clearAccess, scaleCounters, lowerHalves, requestRegister, clearInterrupt, disableInterrupt, enableInterrupt, levelRegister, vectorRegister}
 use Rattle.v560.specs.declared.V560.{V560}
 use Rattle.v560.specs.declared.Outcome.{Outcome}
 use Rattle.v560.specs.Outcomes.{refused, done, formed, scaled}
@@ -24,19 +25,19 @@ use Rattle.v560.specs.Counting.{tested}
 -- entry covers its offset (V260 and V560: 16 or 32 bits) and, there, offset + 2 (16 only)". The last three rows have no offset.
 abbrev pub registers : List Row
 registers =
-    row 0x58 0x58 16 1  --  0 Scale Status register
-    ∷ row 0x56 0x56 16 3  --  1 Scale Increase
-    ∷ row 0x54 0x54 16 3  --  2 VME VETO reset
-    ∷ row 0x52 0x52 16 3  --  3 VME VETO set
-    ∷ row 0x50 0x50 16 3  --  4 Scale clear
-    ∷ row 0x10 0x4C 48 1  --  5 Counters 0 to 15
-    ∷ row 0x12 0x4E 16 1  --  6 their lower halves
-    ∷ row 0x0E 0x0E 16 3  --  7 Request register
-    ∷ row 0x0C 0x0C 16 3  --  8 Clear VME Interrupt
-    ∷ row 0x0A 0x0A 16 3  --  9 Disable VME Interrupt
-    ∷ row 0x08 0x08 16 3  -- 10 Enable VME Interrupt
-    ∷ row 0x06 0x06 16 3  -- 11 Interrupt Level & VETO register
-    ∷ row 0x04 0x04 16 3  -- 12 Interrupt Vector register
+    row 0x58 0x58 16 1  -- Scale Status register
+    ∷ row 0x56 0x56 16 3  -- Scale Increase
+    ∷ row 0x54 0x54 16 3  -- VME VETO reset
+    ∷ row 0x52 0x52 16 3  -- VME VETO set
+    ∷ row 0x50 0x50 16 3  -- Scale clear
+    ∷ row 0x10 0x4C 48 1  -- Counters 0 to 15
+    ∷ row 0x12 0x4E 16 1  -- their lower halves
+    ∷ row 0x0E 0x0E 16 3  -- Request register
+    ∷ row 0x0C 0x0C 16 3  -- Clear VME Interrupt
+    ∷ row 0x0A 0x0A 16 3  -- Disable VME Interrupt
+    ∷ row 0x08 0x08 16 3  -- Enable VME Interrupt
+    ∷ row 0x06 0x06 16 3  -- Interrupt Level & VETO register
+    ∷ row 0x04 0x04 16 3  -- Interrupt Vector register
     ∷ row 1 0 0 0
     ∷ row 1 0 0 0
     ∷ row 1 0 0 0
@@ -90,19 +91,19 @@ vectorFor true s i word = done 0 s (vectored (word % 0x100) i)
 -- what an access does at a row of the table and a place in it; 1: there is no other row
 abbrev pub performed : ℕ → ℕ → V560 → Interrupter → Access → Outcome
 performed at place s i a =
-    cond (eqb at 0) (done (ones + s .joined) s i)
-    (cond (eqb at 1) (tested s i)
-    (cond (eqb at 2) (obey VetoReset s i)
-    (cond (eqb at 3) (obey VetoSet s i)
-    (cond (eqb at 4) (obey ClearAccess s i)
-    (cond (eqb at 5) (counterAt place s i (a .width))
-    (cond (eqb at 6) (lowerAt place s i)
-    (cond (eqb at 7) (requestFor (a .write) s i (a .«data»))
-    (cond (eqb at 8) (obey RemoveRequest s i)
-    (cond (eqb at 9) (obey Disable s i)
-    (cond (eqb at 10) (obey Enable s i)
-    (cond (eqb at 11) (levelFor (a .write) s i (a .«data»))
-    (cond (eqb at 12) (vectorFor (a .write) s i (a .«data»))
+    cond (eqb at status) (done (ones + s .joined) s i)
+    (cond (eqb at scaleIncrease) (tested s i)
+    (cond (eqb at vetoReset) (obey VetoReset s i)
+    (cond (eqb at vetoSet) (obey VetoSet s i)
+    (cond (eqb at clearAccess) (obey ClearAccess s i)
+    (cond (eqb at scaleCounters) (counterAt place s i (a .width))
+    (cond (eqb at lowerHalves) (lowerAt place s i)
+    (cond (eqb at requestRegister) (requestFor (a .write) s i (a .«data»))
+    (cond (eqb at clearInterrupt) (obey RemoveRequest s i)
+    (cond (eqb at disableInterrupt) (obey Disable s i)
+    (cond (eqb at enableInterrupt) (obey Enable s i)
+    (cond (eqb at levelRegister) (levelFor (a .write) s i (a .«data»))
+    (cond (eqb at vectorRegister) (vectorFor (a .write) s i (a .«data»))
     (refused NotInTable s i)))))))))))))
 
 -- 12, then 1, 2 and 3 by the table, then 4 (Scale Increase) and the deed

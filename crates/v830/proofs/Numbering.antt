@@ -1,113 +1,84 @@
--- T1, demand 1, for the V830: a call that is refused leaves the module and every lent word as they were, with the value 0; and each number is given exactly when its line of
--- document 01 holds and no earlier one of the order 12, 10, 1, 2, 3, 11, 4, 6, 5, 7, 8, 9 does. Assumes nothing.
-use Prim.Native.Nat.{ℕ, _-_, _%_}
+-- T1, demand 1, for the V830: a call that is refused leaves the module and every lent word as they were, with the
+-- value 0; and each number is given exactly when its line of document 01 holds and no earlier one does
+-- (specs/Numbers.antt). Deed by deed. Assumes nothing.
+use Prim.Native.Nat.{ℕ, _<_}
 use mathlib.Core.Path.{_≡_, refl, sym}
 use mathlib.Core.Bool.{Bool, true, false, cond, _&&_, _||_, not, false≢true}
-use mathlib.Core.List.{List}
+use mathlib.Core.List.{List, [], _∷_}
+use native.Mathlib.Omega.{arith}
+use borrow.Author.Tests.{eqb-true, eqb-false, lt-ltb, le-ltb}
 use lib.Dec.{eqb, leb, ltb}
-use lib.ListN.{length}
+use lib.ListN.{length, getD}
 use Rattle.bus.specs.declared.Access.{Access}
 use Rattle.bus.specs.declared.Answer.{Answer}
 use Rattle.bus.specs.declared.Answer.the-variants.{NoMeaning, NoChannel, Malformed, WrongMemory, NotRandom, NoWords, TooFewFree, NothingStored, WordsStored}
-use Rattle.bus.specs.Answers.{numberOf, valueOf}
-use Rattle.bus.specs.Table.{lookUp, byTable}
+use Rattle.bus.specs.Answers.{numberOf, valueOf, isDone}
+use Rattle.bus.specs.Table.{byTable}
 use Rattle.bus.proofs.Choices.{both-ways, both-by-test}
-use Rattle.bus.proofs.Numbers.{refusal-value, tableNumber, each-number}
-use Rattle.bus.proofs.Places.{left-of, right-of}
+use Rattle.bus.proofs.Numbers.{refusal-value, each-number}
 use Rattle.layout.specs.declared.Stored.the-variants as stored
-use Rattle.layout.specs.Length.{events, eventLength, eventsIn, roundedUp}
+use Rattle.layout.specs.Length.{events, eventLength, roundedUp}
+use Rattle.meb.specs.declared.Handed.the-variants.{Nothing, Word}
+use Rattle.meb.specs.Ring.{Memory}
+use Rattle.meb.specs.Stores.{free, shorter}
 use Rattle.v830.specs.declared.Call.{Call}
 use Rattle.v830.specs.declared.Call.the-variants as call
+use Rattle.v830.specs.declared.deeds.Deed.{Deed}
+use Rattle.v830.specs.declared.deeds.Deed.the-variants.{Refuse, Pulses, Veto, Test, Clear, Trigger, HandOut, ReadCounter, ReadEnable, WriteEnable, ReadControl, WriteControl, SetBits, ClearBits, Reset, ReadTriggers, ReadEvents}
+use Rattle.v830.specs.declared.deeds.Source.{Source}
+use Rattle.v830.specs.declared.deeds.Source.the-variants.{Line, Register}
 use Rattle.v830.specs.declared.Outcome.{Outcome}
 use Rattle.v830.specs.declared.V830.{V830}
-use Rattle.v830.specs.State.{mode, settings, storeFits, explained, formed, powerOn}
-use Rattle.v830.specs.Outcomes.{Step, kept, refused, done, lent, started}
+use Rattle.v830.specs.State.{mode, settings, formed, powerOn, storing}
+use Rattle.v830.specs.Outcomes.{Step, kept, refused, done, started}
 use Rattle.v830.specs.Trigger.{accepted, triggered}
-use Rattle.v830.specs.Registers.{registers, enableFor, controlFor, withBits, withoutBits, eventsRead, performed}
-use Rattle.v830.specs.Calls.{stepOf}
+use Rattle.v830.specs.Counting.{restarted}
+use Rattle.v830.specs.Registers.{registers, handedOn, controlled, asWritten, withBits, withoutBits, eventsRead}
+use Rattle.v830.specs.Deeds.{deedAt, deedOf, doneBy}
+use Rattle.v830.specs.Calls.{isLentRight, stepOf}
+use Rattle.v830.specs.Account.{Made, made, lending, lendingAnother, accountOf}
+use Rattle.v830.specs.Numbers.{Same, triggerNumber, controlNumber, deedNumber, callNumber, numberFor, startNumber}
+use Rattle.v830.proofs.Staying.{formed-parts}
 
-module _ (s : V830) (memory : List ℕ) where
-  -- what a call leaves that, if it refuses, changes nothing
-  abbrev pub Same : Step → Type 0
-  Same r = eqb (numberOf (r .outcome .answer)) 0 ≡ false → (r .outcome .state ≡ s) × (r .memory ≡ memory) × (valueOf (r .outcome .answer) ≡ 0)
-
-  -- the lines of document 01, in its order
-
-  -- 7: "mode is not random"; 8: "the event would have no words"; 9: "free words are fewer than the event's"
-  abbrev pub triggerNumber : ℕ
-  triggerNumber =
-      cond (eqb (mode (s .control)) 1)
-      (cond (ltb 0 (eventLength (settings s)))
-      (cond (leb (eventLength (settings s)) (s .store .capacity .0 - s .store .stored .0)) 0 9) 8) 7
-
-  -- 4: "a Control result with both low bits 1"
-  abbrev pub controlNumber : ℕ → ℕ
-  controlNumber result = cond (not (eqb (mode result) 3)) 0 4
-
-  -- what a register gives: 4, "6: Channel Enable written while words are stored", "5: V830 memory read, nothing stored", 7, 8, 9
-  abbrev pub rowNumber : Access → ℕ → ℕ
-  rowNumber a at =
-      cond (eqb at 0) (cond (ltb 0 (s .store .stored .0)) 0 5)
-      (cond (eqb at 2) (cond (a .write) (cond (eqb (s .store .stored .0) 0) 0 6) 0)
-      (cond (eqb at 3) (cond (a .write) (controlNumber (a .«data» % 0x100)) 0)
-      (cond (eqb at 4) (controlNumber (withBits s (a .«data»)))
-      (cond (eqb at 5) (controlNumber (withoutBits s (a .«data»)))
-      (cond (eqb at 8) triggerNumber 0)))))
-
-  -- 12: "state record .. malformed"
-  abbrev pub formedNumber : ℕ → ℕ
-  formedNumber after = cond (formed s) after 12
-
-  -- 10: "lent memory has not the length fixed at the start"
-  abbrev pub lentNumber : ℕ → ℕ
-  lentNumber after = formedNumber (cond (eqb (length memory) (s .store .capacity .0)) after 10)
-
-  -- 1, 2 and 3 by the table; 11: "channel not below .. 32"; 4 also for MAN CLR
-  abbrev pub numberFor : Call → ℕ
-  numberFor (call.Pulses x n) = formedNumber (cond (ltb x 32) 0 11)
-  numberFor (call.VetoLine on) = formedNumber 0
-  numberFor call.Test = formedNumber 0
-  numberFor call.ClearLine = formedNumber 0
-  numberFor call.TriggerLine = lentNumber triggerNumber
-  numberFor (call.Access a) = lentNumber (tableNumber 0 registers a (rowNumber a))
-  numberFor call.ManClr = formedNumber 4
-
+module _ (s : V830) (memory : Memory) where
   -- a call's number, and that where it refuses it changes nothing
   abbrev Answered : ℕ → Step → Type 0
-  Answered n r = (numberOf (r .outcome .answer) ≡ n) × Same r
+  Answered n r = (numberOf (r .outcome .answer) ≡ n) × Same s memory r
 
   declines : (why : Answer) → Answered (numberOf why) (kept memory (refused why s))
   declines why = (refl, λ e. (refl, refl, refusal-value why e))
 
-  does : (v : ℕ) (t : V830) (m : List ℕ) → Answered 0 (kept m (done v t))
+  does : (v : ℕ) (t : V830) (m : Memory) → Answered 0 (kept m (done v t))
   does v t m = (refl, λ e. absurd (false≢true (sym e)))
 
   -- what a test picks of what is done, and the refusal
   does-if : (b : Bool) (why : Answer) (v : ℕ) (t : V830) → Answered (cond b 0 (numberOf why)) (kept memory (cond b (done v t) (refused why s)))
   does-if b why v t = both-ways (λ (n : ℕ) (o : Outcome). Answered n (kept memory o)) b 0 (numberOf why) (done v t) (refused why s) (does v t memory) (declines why)
 
-  trigger-answered : (source : ℕ) → Answered triggerNumber (triggered source s memory)
-  trigger-answered source =
+  trigger-answered : (by : Source) → Answered (triggerNumber s) (triggered by s memory)
+  trigger-answered by =
       both-ways Answered (eqb (mode (s .control)) 1) _ _ _ _
       (both-ways Answered (ltb 0 (eventLength (settings s))) _ _ _ _
-      (both-ways Answered (leb (eventLength (settings s)) (s .store .capacity .0 - s .store .stored .0)) 0 9 (accepted source s memory) (kept memory (refused TooFewFree s))
-      (does 0 (accepted source s memory .outcome .state) (accepted source s memory .memory))
+      (both-ways Answered (leb (eventLength (settings s)) (free (s .store) .0)) 0 9 (accepted by s memory) (kept memory (refused TooFewFree s))
+      (does 0 (accepted by s memory .outcome .state) (accepted by s memory .memory))
       (declines TooFewFree))
       (declines NoWords))
       (declines NotRandom)
 
-  control-answered : (word : ℕ) (w : Bool) → Answered (cond w (controlNumber (word % 0x100)) 0) (kept memory (controlFor w s word))
-  control-answered word true = does-if (not (eqb (mode (word % 0x100)) 3)) NoMeaning 0 _
-  control-answered word false = does (s .control) s memory
-
-  enable-answered : (word : ℕ) (w : Bool) → Answered (cond w (cond (eqb (s .store .stored .0) 0) 0 6) 0) (kept memory (enableFor w s word))
-  enable-answered word true = does-if (eqb (s .store .stored .0) 0) WordsStored 0 _
-  enable-answered word false = does (s .enable) s memory
+  -- a memory read: something is stored, or nothing
+  read-answered : (word : ℕ) (b : Bool) → eqb (s .store .stored .0) 0 ≡ b
+      → Answered (cond (ltb 0 (s .store .stored .0)) 0 5) (kept memory (handedOn s (cond b Nothing (Word word (shorter (s .store))))))
+  read-answered word true e = rw (le-ltb 0 (s .store .stored .0) (omega (arith, eqb-true (s .store .stored .0) 0 e))) (declines NothingStored)
+  read-answered word false e =
+      let z = eqb-false (s .store .stored .0) 0 e in
+      rw (lt-ltb 0 (s .store .stored .0) (some (s .store .stored .0) z)) (does word (storing (shorter (s .store)) s) memory)
+    where
+      some : (n : ℕ) → (n ≡ 0 → ⊥) → 0 < n
+      some n z = omega (arith, z)
 
   -- words that are stored are those of events, unless the state is malformed
-  read-answered : formed s ≡ true → Answered 0 (kept memory (eventsRead s (eventsIn (settings s) (s .store .stored .0))))
-  unfolding formed
-  read-answered g = go (eqb (s .store .stored .0) 0) (eqb (eventLength (settings s)) 0) (right-of (leb (s .geo) 31 && storeFits (s .store)) _ (left-of (leb (s .geo) 31 && storeFits (s .store) && explained s) _ g))
+  number-answered : formed s ≡ true → Answered 0 (doneBy ReadEvents s memory)
+  number-answered g = go (eqb (s .store .stored .0) 0) (eqb (eventLength (settings s)) 0) (formed-parts s g .words)
     where
       n : ℕ
       n = roundedUp (s .store .stored .0) (eventLength (settings s))
@@ -117,73 +88,105 @@ module _ (s : V830) (memory : List ℕ) where
       go false false e = does (events n .0) s memory
       go false true e = absurd (false≢true e)
 
-  -- the rows of the table, one after the other
-  row-answered : formed s ≡ true → (a : Access)
-      → Answered (tableNumber 0 registers a (rowNumber a)) (byTable (λ why. kept memory (refused why s)) (λ at place. performed at place s memory a) (lookUp 0 registers a))
-  row-answered g a =
-      each-number (λ n to. Answered n (byTable (λ why. kept memory (refused why s)) (λ at place. performed at place s memory a) to)) registers a (rowNumber a) (λ why d. declines why)
-      (λ place. does-if (ltb 0 (s .store .stored .0)) NothingStored _ _)
-      (λ place. does _ s memory)
-      (λ place. enable-answered (a .«data») (a .write))
-      (λ place. control-answered (a .«data») (a .write))
-      (λ place. does-if (not (eqb (mode (withBits s (a .«data»))) 3)) NoMeaning 0 _)
-      (λ place. does-if (not (eqb (mode (withoutBits s (a .«data»))) 3)) NoMeaning 0 _)
-      (λ place. does 0 _ memory)
-      (λ place. does 0 _ memory)
-      (λ place. trigger-answered 0)
-      (λ place. does _ s memory)
-      (λ place. read-answered g)
+  control-answered : (result : ℕ) → Answered (controlNumber result) (kept memory (controlled result s))
+  control-answered result = does-if (not (eqb (mode result) 3)) NoMeaning 0 (restarted result s)
 
-  -- 12 comes first, and 10 of a call that is lent the memory
-  formed-answered : (n : ℕ) (o : Outcome) → Answered n (kept memory o) → Answered (formedNumber n) (kept memory (cond (formed s) o (refused Malformed s)))
-  formed-answered n o h = both-ways (λ (n : ℕ) (o : Outcome). Answered n (kept memory o)) (formed s) n 12 o (refused Malformed s) h (declines Malformed)
+  -- deed by deed
+  deed-answered : formed s ≡ true → (d : Deed) → Answered (deedNumber s d) (doneBy d s memory)
+  deed-answered g (Refuse why) = declines why
+  deed-answered g (Pulses k n) = does-if (ltb k 32) NoChannel 0 _
+  deed-answered g (Veto on) = does 0 _ memory
+  deed-answered g Test = does 0 _ memory
+  deed-answered g (Clear by) = does 0 _ memory
+  deed-answered g (Trigger by) = trigger-answered by
+  deed-answered g HandOut = read-answered (getD (memory .words) (s .store .first) 0) (eqb (s .store .stored .0) 0) refl
+  deed-answered g (ReadCounter k) = does _ s memory
+  deed-answered g ReadEnable = does _ s memory
+  deed-answered g (WriteEnable word) = does-if (eqb (s .store .stored .0) 0) WordsStored 0 _
+  deed-answered g ReadControl = does _ s memory
+  deed-answered g (WriteControl word) = control-answered (asWritten word)
+  deed-answered g (SetBits word) = control-answered (withBits s word)
+  deed-answered g (ClearBits word) = control-answered (withoutBits s word)
+  deed-answered g Reset = does 0 _ memory
+  deed-answered g ReadTriggers = does _ s memory
+  deed-answered g ReadEvents = number-answered g
 
-  lent-answered : (n : ℕ) (r : Step) → (formed s ≡ true → Answered n r) → Answered (lentNumber n) (lent s memory r)
-  lent-answered n r h =
+  -- an access: the number by the table, where the place in a row does not matter
+  access-answered : formed s ≡ true → (a : Access) → Answered (callNumber s (call.Access a)) (doneBy (deedOf (call.Access a)) s memory)
+  access-answered g a =
+      each-number (λ n to. Answered n (doneBy (byTable Refuse (λ row place. deedAt row place a) to) s memory)) registers a (λ row. deedNumber s (deedAt row 0 a)) (λ why d. declines why)
+      (λ place. deed-answered g HandOut)
+      (λ place. deed-answered g (ReadCounter place))
+      (λ place. by-direction (a .write) (WriteEnable (a .«data»)) ReadEnable)
+      (λ place. by-direction (a .write) (WriteControl (a .«data»)) ReadControl)
+      (λ place. deed-answered g (SetBits (a .«data»)))
+      (λ place. deed-answered g (ClearBits (a .«data»)))
+      (λ place. deed-answered g Reset)
+      (λ place. deed-answered g (Clear Register))
+      (λ place. deed-answered g (Trigger Register))
+      (λ place. deed-answered g ReadTriggers)
+      (λ place. deed-answered g ReadEvents)
+    where
+      by-direction : (b : Bool) (d e : Deed) → Answered (deedNumber s (cond b d e)) (doneBy (cond b d e) s memory)
+      by-direction b d e = deed-answered g (cond b d e)
+
+  call-answered : formed s ≡ true → (c : Call) → Answered (callNumber s c) (doneBy (deedOf c) s memory)
+  call-answered g (call.Pulses k n) = deed-answered g (Pulses k n)
+  call-answered g (call.VetoLine on) = deed-answered g (Veto on)
+  call-answered g call.Test = deed-answered g Test
+  call-answered g call.ClearLine = deed-answered g (Clear Line)
+  call-answered g call.TriggerLine = deed-answered g (Trigger Line)
+  call-answered g (call.Access a) = access-answered g a
+  call-answered g call.ManClr = declines NoMeaning
+
+  -- 12 comes first, then 10 of a call that is lent the memory
+  answered : (c : Call) → Answered (numberFor s memory c) (stepOf s memory c)
+  answered c =
       both-by-test Answered (formed s) _ 12 _ (kept memory (refused Malformed s))
-      (λ g. both-ways Answered (eqb (length memory) (s .store .capacity .0)) n 10 r (kept memory (refused WrongMemory s)) (h g) (declines WrongMemory))
+      (λ g. both-ways Answered (isLentRight s memory c) (callNumber s c) 10 (doneBy (deedOf c) s memory) (kept memory (refused WrongMemory s)) (call-answered g c) (declines WrongMemory))
       (λ g. declines Malformed)
 
-  answered : (c : Call) → Answered (numberFor c) (stepOf s memory c)
-  answered (call.Pulses x n) = formed-answered _ _ (does-if (ltb x 32) NoChannel 0 _)
-  answered (call.VetoLine on) = formed-answered 0 _ (does 0 _ memory)
-  answered call.Test = formed-answered 0 _ (does 0 _ memory)
-  answered call.ClearLine = formed-answered 0 _ (does 0 _ memory)
-  answered call.TriggerLine = lent-answered triggerNumber _ (λ g. trigger-answered 1)
-  answered (call.Access a) = lent-answered _ _ (λ g. row-answered g a)
-  answered call.ManClr = formed-answered 4 _ (declines NoMeaning)
-
   -- T1: a refused call changes neither the module nor a lent word, and has the value 0
-  pub v830-refused-same : (c : Call) → Same (stepOf s memory c)
+  pub v830-refused-same : (c : Call) → Same s memory (stepOf s memory c)
   v830-refused-same c = answered c .1
 
   -- T1: each number exactly when its line holds and no earlier one does
-  pub v830-number-is : (c : Call) → numberOf (stepOf s memory c .outcome .answer) ≡ numberFor c
+  pub v830-number-is : (c : Call) → numberOf (stepOf s memory c .outcome .answer) ≡ numberFor s memory c
   v830-number-is c = answered c .0
 
 -- the start by its two tests
-start-answered : (geo : ℕ) (memory : List ℕ) (b d : Bool)
-    → let o : Outcome = cond b (cond d (done 0 (powerOn geo (length memory))) (refused WrongMemory (powerOn 0 0))) (refused Malformed (powerOn 0 0)) in
-    (numberOf (o .answer) ≡ cond b (cond d 0 10) 12) × (eqb (numberOf (o .answer)) 0 ≡ false → (o .state ≡ powerOn 0 0) × (valueOf (o .answer) ≡ 0))
-start-answered geo memory true true = (refl, λ e. absurd (false≢true (sym e)))
-start-answered geo memory true false = (refl, λ e. (refl, refl))
-start-answered geo memory false d = (refl, λ e. (refl, refl))
+start-answered : (geo : ℕ) (n : ℕ) (b d : Bool)
+    → let o : Outcome = cond b (cond d (done 0 (powerOn 0 geo n)) (refused WrongMemory (powerOn 0 0 0))) (refused Malformed (powerOn 0 0 0)) in
+    (numberOf (o .answer) ≡ cond b (cond d 0 10) 12) × (isDone (o .answer) ≡ false → (o .state ≡ powerOn 0 0 0) × (valueOf (o .answer) ≡ 0))
+start-answered geo n true true = (refl, λ e. absurd (false≢true (sym e)))
+start-answered geo n true false = (refl, λ e. (refl, refl))
+start-answered geo n false d = (refl, λ e. (refl, refl))
 
--- "A refused start returns the power-on record with GEO and capacity 0 .. which gets 12 from then on"
-pub v830-start-refused : (geo : ℕ) (memory : List ℕ) → eqb (numberOf (started geo memory .answer)) 0 ≡ false → (started geo memory .state ≡ powerOn 0 0) × (valueOf (started geo memory .answer) ≡ 0)
-v830-start-refused geo memory = start-answered geo memory (leb geo 31) (leb 1 (length memory) && leb (length memory) 32768) .1
+module _ (geo : ℕ) (memory : Memory) where
+  -- "A refused start returns the power-on record with GEO and capacity 0 .."
+  pub v830-start-refused : isDone (started geo memory .answer) ≡ false → (started geo memory .state ≡ powerOn 0 0 0) × (valueOf (started geo memory .answer) ≡ 0)
+  v830-start-refused = start-answered geo (length (memory .words)) (leb geo 31) (leb 1 (length (memory .words)) && leb (length (memory .words)) 32768) .1
 
-pub v830-start-number : (geo : ℕ) (memory : List ℕ)
-    → numberOf (started geo memory .answer) ≡ cond (leb geo 31) (cond (leb 1 (length memory) && leb (length memory) 32768) 0 10) 12
-v830-start-number geo memory = start-answered geo memory (leb geo 31) (leb 1 (length memory) && leb (length memory) 32768) .0
+  pub v830-start-number : numberOf (started geo memory .answer) ≡ startNumber geo memory
+  v830-start-number = start-answered geo (length (memory .words)) (leb geo 31) (leb 1 (length (memory .words)) && leb (length (memory .words)) 32768) .0
 
--- and, its record being malformed, every call of it is refused with 12
-pub v830-stays-refused : (memory : List ℕ) (c : Call) → numberOf (stepOf (powerOn 0 0) memory c .outcome .answer) ≡ 12
+-- ".. which gets 12 from then on": every call of it is refused with 12 and leaves it as it is
+refused-stays : (memory : Memory) (c : Call) → (numberOf (stepOf (powerOn 0 0 0) memory c .outcome .answer) ≡ 12) × (stepOf (powerOn 0 0 0) memory c .outcome .state ≡ powerOn 0 0 0)
 unfolding formed
-v830-stays-refused memory (call.Pulses x n) = refl
-v830-stays-refused memory (call.VetoLine on) = refl
-v830-stays-refused memory call.Test = refl
-v830-stays-refused memory call.ClearLine = refl
-v830-stays-refused memory call.TriggerLine = refl
-v830-stays-refused memory (call.Access a) = refl
-v830-stays-refused memory call.ManClr = refl
+refused-stays memory c = (refl, refl)
+
+-- over every list of calls after a refused start, whatever the memories that they are lent: the next one gets 12 too
+pub v830-refused-start : (geo : ℕ) (first : Memory) (calls : List Made) (next : Made) → isDone (started geo first .answer) ≡ false
+    → let last : Step = accountOf calls (kept first (started geo first)) .last in
+    (numberOf (made last next .outcome .answer) ≡ 12) × (last .outcome .state ≡ powerOn 0 0 0)
+unfolding accountOf
+v830-refused-start geo first calls next d = go calls (kept first (started geo first)) (v830-start-refused geo first d .0)
+  where
+    one : (b : Step) (m : Made) → b .outcome .state ≡ powerOn 0 0 0 → (numberOf (made b m .outcome .answer) ≡ 12) × (made b m .outcome .state ≡ powerOn 0 0 0)
+    one b (lending c) e = rw e (refused-stays (b .memory) c)
+    one b (lendingAnother lend c) e = rw e (refused-stays lend c)
+
+    go : (ms : List Made) (b : Step) → b .outcome .state ≡ powerOn 0 0 0
+        → (numberOf (made (accountOf ms b .last) next .outcome .answer) ≡ 12) × (accountOf ms b .last .outcome .state ≡ powerOn 0 0 0)
+    go [] b e = (one b next e .0, e)
+    go (m ∷ ms) b e = go ms (made b m) (one b m e .1)

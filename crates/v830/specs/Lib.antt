@@ -1,9 +1,11 @@
 pub mod State
-pub mod Memory
 pub mod Outcomes
 pub mod Counting
 pub mod Trigger
 pub mod Registers
+pub mod Deeds
 pub mod Calls
+pub mod Numbers
 pub mod Account
-pub mod Lending
+pub mod Stretch
+pub mod Reckoned

@@ -1,14 +1,46 @@
--- Document 01, "V830 store" and number 12: what the registers of a V830 mean, and which records are malformed. Assumes nothing.
+-- Document 01, "V830 store" and number 12: what the registers of a V830 mean, and which records are malformed.
+-- Assumes nothing.
 use Prim.Native.Nat.{ℕ, _%_}
 use mathlib.Core.Bool.{Bool, false, _&&_, _||_, not}
 use mathlib.Core.List.{List}
-use lib.Dec.{eqb, ltb, leb}
+use lib.Dec.{eqb, leb}
 use lib.ListN.{replicate}
 use Rattle.count.specs.Counter.{bit}
 use Rattle.layout.specs.declared.Settings.{Settings}
-use Rattle.layout.specs.Length.{words, eventLength}
-use Rattle.v830.specs.declared.Store.{Store}
+use Rattle.layout.specs.Length.{eventLength}
+use Rattle.meb.specs.declared.Store.{Store}
+use Rattle.meb.specs.Stores.{emptyOf, fits}
+use Rattle.v830.specs.declared.Tallies.{Tallies}
 use Rattle.v830.specs.declared.V830.{V830}
+
+-- the module with another part: its counts, Channel Enable, Control, the VETO line, the event memory, what is tallied
+abbrev pub counting : List ℕ → V830 → V830
+counting counts s =
+    record { counts = counts; enable = s .enable; geo = s .geo; store = s .store; tallies = s .tallies; control = s .control; veto = s .veto }
+
+abbrev pub enabling : ℕ → V830 → V830
+enabling enable s =
+    record { counts = s .counts; enable = enable; geo = s .geo; store = s .store; tallies = s .tallies; control = s .control; veto = s .veto }
+
+abbrev pub controlling : ℕ → V830 → V830
+controlling control s =
+    record { counts = s .counts; enable = s .enable; geo = s .geo; store = s .store; tallies = s .tallies; control = control; veto = s .veto }
+
+abbrev pub vetoed : Bool → V830 → V830
+vetoed on s =
+    record { counts = s .counts; enable = s .enable; geo = s .geo; store = s .store; tallies = s .tallies; control = s .control; veto = on }
+
+abbrev pub storing : Store → V830 → V830
+storing store s =
+    record { counts = s .counts; enable = s .enable; geo = s .geo; store = store; tallies = s .tallies; control = s .control; veto = s .veto }
+
+abbrev pub tallying : Tallies → V830 → V830
+tallying tallies s =
+    record { counts = s .counts; enable = s .enable; geo = s .geo; store = s .store; tallies = tallies; control = s .control; veto = s .veto }
+
+-- the tallies with another Trigger Counter
+abbrev pub withTriggers : ℕ → Tallies → Tallies
+withTriggers n t = record { triggers = n }
 
 -- "Control bits: 0 and 1 mode, as a number with bit 1 high (0 disabled, 1 random, 2 periodical)"
 abbrev pub mode : ℕ → ℕ
@@ -26,27 +58,25 @@ settings s = record { header = isSet 5 (s .control); short = isSet 2 (s .control
 abbrev pub zeros : List ℕ
 zeros = replicate 32 0
 
--- 12: "capacity (once started) outside 1 to 32,768, first place not below capacity, stored above capacity"
-abbrev pub storeFits : Store → Bool
-storeFits m = leb 1 (m .capacity .0) && leb (m .capacity .0) 32768 && ltb (m .first) (m .capacity .0) && leb (m .stored .0) (m .capacity .0)
-
 -- 12: "words stored while the event length is 0"
 abbrev pub explained : V830 → Bool
 explained s = eqb (s .store .stored .0) 0 || not (eqb (eventLength (settings s)) 0)
 
--- 12: "GEO above 31", those, and "mode bits both 1"; a count of 32 bits is never above its width
+-- 12: "GEO above 31", a store out of its bounds, that, and "mode bits both 1"; a count of 32 bits is never above its
+-- width
 unfoldable pub formed : V830 → Bool
-formed s = leb (s .geo) 31 && storeFits (s .store) && explained s && not (eqb (mode (s .control)) 3)
+formed s = leb (s .geo) 31 && fits (s .store) && explained s && not (eqb (mode (s .control)) 3)
 
--- power-on: Control "All 0"; Channel Enable "all ones", since section 3.6 of 002 is silent; counters, Trigger Counter and memory empty, VETO off
-abbrev pub powerOn : ℕ → ℕ → V830
-powerOn geo capacity =
+-- power-on with this Control: Channel Enable "all ones", since section 3.6 of 002 is silent; counters, Trigger
+-- Counter and memory empty, VETO off
+abbrev pub powerOn : ℕ → ℕ → ℕ → V830
+powerOn control geo capacity =
     record {
       counts = zeros;
       enable = 0xFFFFFFFF;
-      control = 0;
-      triggers = 0;
-      veto = false;
       geo = geo;
-      store = record { capacity = words capacity; first = 0; stored = words 0 };
+      store = emptyOf capacity;
+      tallies = record { triggers = 0 };
+      control = control;
+      veto = false;
     }

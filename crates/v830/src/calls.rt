@@ -1,219 +1,127 @@
-// The calls of a V830: the module given and handed back by value, its memory lent.
+// The calls of a V830, by one door: the gate, 12 and 10, then the deed.
 ghost use mathlib.Core.Path.{_≡_};
-ghost use lib.Dec.{eqb};
+ghost use mathlib.Core.Bool.{true};
+ghost use Prim.Native.Nat.{_<_};
 ghost use lib.ListN.{length};
-ghost use Rattle.bus.specs.Table.{lookUp, reach, row};
-ghost use Rattle.v830.specs.Registers.{registers, accessOf};
-ghost use Rattle.v830.specs.Lending.{reachedBy, sourceOf, lentOf, noAccess, lends, lendingOf};
-ghost use Rattle.v830.specs.Calls.{pulsesOf, vetoOf, testOf, clearOf, triggerOf, manClrOf, stepOf};
+ghost use Rattle.meb.specs.Ring.{lent};
+ghost use Rattle.v830.specs.State.{formed};
+ghost use Rattle.v830.specs.Deeds.{doneBy, counterOf};
+ghost use Rattle.v830.specs.Calls.{isLent, hasLength, isLentRight, gateOf, stepOf};
 use crate::Call;
 use crate::Outcome;
-use crate::TABLE;
 use crate::V830;
 use crate::counting::cleared;
-use crate::counting::pulse_often;
+use crate::counting::pulsed;
 use crate::counting::tested;
+use crate::counting::vetoed;
+use crate::deeds::Deed;
+use crate::deeds::of_call;
 use crate::done;
 use crate::refused;
-use crate::registers::perform;
+use crate::registers::clear_bits;
+use crate::registers::controlled;
+use crate::registers::counter;
+use crate::registers::event_number;
+use crate::registers::hand_out;
+use crate::registers::reset;
+use crate::registers::set_bits;
+use crate::registers::write_enable;
 use crate::state::is_formed;
-use bus::Access;
+use crate::trigger::triggered;
 use bus::Answer;
-use bus::table::Register;
-
-// What a call asks of the memory: whether it is lent it, whether it is the trigger line, and the access that it else is.
-pub struct Lending {
-    pub lent: bool,
-    pub line: bool,
-    pub access: Access,
-}
 
 // Whether the memory that is lent has the length fixed at the start.
 fn has_length(s: V830, memory: &[u32]) -> bool
-    ensures { λ r. ⌜ r ≡ eqb (length (now (memory .entry))) (s .store .capacity .0) ⌝ }
+    ensures { λ r. ⌜ r ≡ hasLength s (lent (now (memory .entry))) ⌝ }
 {
     let store = s.store;
     let capacity = store.capacity;
     memory.len() == capacity.0 as usize
 }
 
-// Pulses on a channel's input.
-pub fn pulses(s: V830, channel: u32, n: u32) -> Outcome
-    ensures { λ r. ⌜ r ≡ pulsesOf s channel n ⌝ }
+// Whether a call is lent the memory: accesses and the trigger are.
+fn is_lent(call: Call) -> bool
+    ensures { λ r. ⌜ r ≡ isLent call ⌝ }
+{
+    match call {
+        Call::Pulses(_, _) => false,
+        Call::VetoLine(_) => false,
+        Call::Test => false,
+        Call::ClearLine => false,
+        Call::TriggerLine => true,
+        Call::Access(_) => true,
+        Call::ManClr => false,
+    }
+}
+
+// Whether a call is lent no memory, or that of the module.
+fn is_lent_right(s: V830, memory: &[u32], call: Call) -> bool
+    ensures { λ r. ⌜ r ≡ isLentRight s (lent (now (memory .entry))) call ⌝ }
+{
+    if is_lent(call) {
+        return has_length(s, memory);
+    }
+    true
+}
+
+// The gate by itself, for who makes many calls on one memory: 12, 10 or neither.
+pub fn gate(s: V830, memory: &[u32]) -> Answer
+    ensures { λ r. ⌜ r ≡ gateOf s (lent (now (memory .entry))) ⌝ }
+{
+    if !is_formed(s) {
+        return Answer::Malformed;
+    }
+    if has_length(s, memory) {
+        return Answer::Done(0);
+    }
+    Answer::WrongMemory
+}
+
+// Does what a call is to do, to a module that is not malformed.
+fn perform(deed: Deed, s: V830, memory: &mut [u32]) -> Outcome
+    requires { ⌜ (formed s ≡ true) × (counterOf deed < 32) ⌝ }
+    ensures { λ r. ⌜ (r ≡ doneBy deed s (lent (now (memory .entry))) .outcome) × (now (memory .exit) ≡ doneBy deed s (lent (now (memory .entry))) .memory .words) ⌝ }
+{
+    let tallies = s.tallies;
+    match deed {
+        Deed::Refuse(why) => refused(why, s),
+        Deed::Pulses(channel, n) => pulsed(channel, n, s),
+        Deed::Veto(on) => done(0, vetoed(on, s)),
+        Deed::Test => done(0, tested(s)),
+        Deed::Clear(by) => done(0, cleared(by, s)),
+        Deed::Trigger(by) => triggered(by, s, memory),
+        Deed::HandOut => hand_out(s, memory),
+        Deed::ReadCounter(k) => counter(k as usize, s),
+        Deed::ReadEnable => done(s.enable, s),
+        Deed::WriteEnable(word) => write_enable(word, s),
+        Deed::ReadControl => done(s.control as u32, s),
+        Deed::WriteControl(word) => controlled((word % 256) as u8, s),
+        Deed::SetBits(word) => set_bits(word, s),
+        Deed::ClearBits(word) => clear_bits(word, s),
+        Deed::Reset => done(0, reset(s)),
+        Deed::ReadTriggers => done(tallies.triggers, s),
+        Deed::ReadEvents => event_number(s),
+    }
+}
+
+// Any call: the gate, then the deed.
+pub fn step(s: V830, memory: &mut [u32], call: Call) -> Outcome
+    ensures { λ r. ⌜ (r ≡ stepOf s (lent (now (memory .entry))) call .outcome) × (now (memory .exit) ≡ stepOf s (lent (now (memory .entry))) call .memory .words) ⌝ }
 {
     if !is_formed(s) {
         return refused(Answer::Malformed, s);
     }
-    if channel > 31 {
-        return refused(Answer::NoChannel, s);
-    }
-    done(0, pulse_often(s, channel as usize, n))
-}
-
-// The VETO line, on or off.
-pub fn veto_line(s: V830, on: bool) -> Outcome
-    ensures { λ r. ⌜ r ≡ vetoOf s on ⌝ }
-{
-    if !is_formed(s) {
-        return refused(Answer::Malformed, s);
-    }
-    let mut state = s;
-    state.veto = on;
-    done(0, state)
-}
-
-// A pulse on the TEST line.
-pub fn test(s: V830) -> Outcome
-    ensures { λ r. ⌜ r ≡ testOf s ⌝ }
-{
-    if !is_formed(s) {
-        return refused(Answer::Malformed, s);
-    }
-    done(0, tested(s))
-}
-
-// A pulse on the CLEAR line.
-pub fn clear_line(s: V830) -> Outcome
-    ensures { λ r. ⌜ r ≡ clearOf s ⌝ }
-{
-    if !is_formed(s) {
-        return refused(Answer::Malformed, s);
-    }
-    done(0, cleared(s))
-}
-
-// What an access gets of the MEB window, the table's first row.
-fn in_window(a: Access) -> Register
-    ensures { λ r. ⌜ r ≡ reach 0 (row 0x0000 0x0FFC 32 1) a ⌝ }
-{
-    if a.width != 32 {
-        return Register::Refused(Answer::WrongWidth);
-    }
-    if a.write {
-        return Register::Refused(Answer::WrongDirection);
-    }
-    Register::At(0, a.offset / 4)
-}
-
-// What an access reaches in the table, the MEB window first.
-fn looked_up(a: Access) -> Register
-    ensures { λ r. ⌜ r ≡ lookUp 0 registers a ⌝ }
-{
-    if a.offset <= 0x0FFC {
-        if a.offset % 4 == 0 {
-            return in_window(a);
-        }
-    }
-    bus::table::look_up(TABLE, a)
-}
-
-// What a call that is lent the memory reaches in the table: the trigger line is wired to Software Trigger.
-fn reached(line: bool, a: Access) -> Register
-    ensures { λ r. ⌜ r ≡ reachedBy line a ⌝ }
-{
-    if line {
-        return Register::At(8, 0);
-    }
-    looked_up(a)
-}
-
-// The source of a trigger: 1 by the line, 0 by an access.
-fn source_of(line: bool) -> u32
-    ensures { λ r. ⌜ r ≡ sourceOf line ⌝ }
-{
-    if line { 1 } else { 0 }
-}
-
-// A call that is lent the memory: a trigger by the line, or else the access.
-fn lent(s: V830, memory: &mut [u32], line: bool, a: Access) -> Outcome
-    ensures { λ r. ⌜ (r ≡ lentOf line s (now (memory .entry)) a .outcome) × (now (memory .exit) ≡ lentOf line s (now (memory .entry)) a .memory) ⌝ }
-{
-    if !is_formed(s) {
-        return refused(Answer::Malformed, s);
-    }
-    if !has_length(s, memory) {
+    if !is_lent_right(s, memory, call) {
         return refused(Answer::WrongMemory, s);
     }
-    match reached(line, a) {
-        Register::Refused(why) => refused(why, s),
-        Register::At(row, place) => perform(row, place, source_of(line), s, memory, a),
-    }
+    perform(of_call(call), s, memory)
 }
 
-// A trigger by the line.
-pub fn trigger_line(s: V830, memory: &mut [u32]) -> Outcome
-    ensures { λ r. ⌜ (r ≡ triggerOf s (now (memory .entry)) .outcome) × (now (memory .exit) ≡ triggerOf s (now (memory .entry)) .memory) ⌝ }
+// The inner door, for proved callers that carry along that the module is not malformed and has its memory: any call,
+// 12 and 10 not asked again.
+pub fn step_formed(s: V830, memory: &mut [u32], call: Call) -> Outcome
+    requires { ⌜ (formed s ≡ true) × (length (now memory) ≡ s .store .capacity .0) ⌝ }
+    ensures { λ r. ⌜ (r ≡ stepOf s (lent (now (memory .entry))) call .outcome) × (now (memory .exit) ≡ stepOf s (lent (now (memory .entry))) call .memory .words) ⌝ }
 {
-    lent(s, memory, true, no_access())
-}
-
-// An access by VME.
-pub fn access(s: V830, memory: &mut [u32], a: Access) -> Outcome
-    ensures { λ r. ⌜ (r ≡ accessOf s (now (memory .entry)) a .outcome) × (now (memory .exit) ≡ accessOf s (now (memory .entry)) a .memory) ⌝ }
-{
-    lent(s, memory, false, a)
-}
-
-// The access of a call that is none.
-fn no_access() -> Access
-    ensures { λ r. ⌜ r ≡ noAccess ⌝ }
-{
-    Access {
-        offset: 0,
-        width: 0,
-        write: false,
-        data: 0,
-    }
-}
-
-// What a call asks of the memory.
-fn asks(call: Call) -> Lending
-    ensures { λ r. ⌜ r ≡ lendingOf call ⌝ }
-{
-    match call {
-        Call::Pulses(_, _) => lends(false, false, no_access()),
-        Call::VetoLine(_) => lends(false, false, no_access()),
-        Call::Test => lends(false, false, no_access()),
-        Call::ClearLine => lends(false, false, no_access()),
-        Call::TriggerLine => lends(true, true, no_access()),
-        Call::Access(a) => lends(true, false, a),
-        Call::ManClr => lends(false, false, no_access()),
-    }
-}
-
-// That record.
-fn lends(lent: bool, line: bool, access: Access) -> Lending
-    ensures { λ r. ⌜ r ≡ lends lent line access ⌝ }
-{
-    Lending { lent, line, access }
-}
-
-// Any call: those that are lent the memory by one way, so that the two last do not come to the match.
-pub fn step(s: V830, memory: &mut [u32], call: Call) -> Outcome
-    ensures { λ r. ⌜ (r ≡ stepOf s (now (memory .entry)) call .outcome) × (now (memory .exit) ≡ stepOf s (now (memory .entry)) call .memory) ⌝ }
-{
-    let l = asks(call);
-    if l.lent {
-        let a = l.access;
-        return lent(s, memory, l.line, a);
-    }
-    match call {
-        Call::Pulses(channel, n) => pulses(s, channel, n),
-        Call::VetoLine(on) => veto_line(s, on),
-        Call::Test => test(s),
-        Call::ClearLine => clear_line(s),
-        Call::ManClr => man_clr(s),
-        Call::TriggerLine => man_clr(s),
-        Call::Access(_) => man_clr(s),
-    }
-}
-
-// The button MAN CLR, which the module has not.
-fn man_clr(s: V830) -> Outcome
-    ensures { λ r. ⌜ r ≡ manClrOf s ⌝ }
-{
-    if !is_formed(s) {
-        return refused(Answer::Malformed, s);
-    }
-    refused(Answer::NoMeaning, s)
+    perform(of_call(call), s, memory)
 }

@@ -1,6 +1,7 @@
 // The V830: 32 counters of 32 bits, and events in a memory that is lent to it.
 ghost use mathlib.Core.Path.{_≡_};
 ghost use lib.ListN.{length};
+ghost use Rattle.meb.specs.Ring.{lent};
 ghost use Rattle.v830.specs.Outcomes.{refused, done, started};
 use bus::Access;
 use bus::Answer;
@@ -11,22 +12,18 @@ use bus::table::READ_WRITE;
 use bus::table::Row;
 use bus::table::UNUSED;
 use bus::table::WRITE;
-use layout::Words;
+use meb::Store;
 
 mod calls;
 mod counting;
+mod deeds;
 mod registers;
-mod ring;
 mod state;
 mod trigger;
 
-pub use calls::access;
-pub use calls::clear_line;
-pub use calls::pulses;
+pub use calls::gate;
 pub use calls::step;
-pub use calls::test;
-pub use calls::trigger_line;
-pub use calls::veto_line;
+pub use calls::step_formed;
 
 // Section 3.1 of source document 002, those of its registers that document 01 lists.
 const TABLE: [Row; 16] = [
@@ -48,20 +45,41 @@ const TABLE: [Row; 16] = [
     UNUSED,
 ];
 
-// The event memory as the module knows it: its length, the place of the oldest word, and the words stored.
-pub struct Store {
-    pub capacity: Words,
-    pub first: u32,
-    pub stored: Words,
+// The names of its rows, each the row's place; a further register takes one of the unused rows.
+const MEB_WINDOW: usize = 0;
+
+const COUNTERS: usize = 1;
+
+const CHANNEL_ENABLE: usize = 2;
+
+const CONTROL: usize = 3;
+
+const CONTROL_BIT_SET: usize = 4;
+
+const CONTROL_BIT_CLEAR: usize = 5;
+
+const SOFTWARE_RESET: usize = 6;
+
+const SOFTWARE_CLEAR: usize = 7;
+
+const SOFTWARE_TRIGGER: usize = 8;
+
+const TRIGGER_COUNTER: usize = 9;
+
+const MEB_EVENT_NUMBER: usize = 10;
+
+// What is only counted up: the accepted triggers, in the Trigger Counter.
+pub struct Tallies {
+    pub triggers: u32,
 }
 
-// The counters, Channel Enable, Control, the Trigger Counter, the VETO line, GEO, and the event memory.
+// The counters, Channel Enable, GEO, the event memory, the tallies, Control and the VETO line.
 pub struct V830 {
     pub counts: [u32; 32],
     pub enable: u32,
-    pub triggers: u32,
     pub geo: u32,
     pub store: Store,
+    pub tallies: Tallies,
     pub control: u8,
     pub veto: bool,
 }
@@ -85,18 +103,18 @@ pub enum Call {
 
 // A module that is switched on, with its GEO and the memory lent to it.
 pub fn start(geo: u32, memory: &[u32]) -> Outcome
-    ensures { λ r. ⌜ r ≡ started geo (now (memory .entry)) ⌝ }
+    ensures { λ r. ⌜ r ≡ started geo (lent (now (memory .entry))) ⌝ }
 {
     if geo > 31 {
-        return refused(Answer::Malformed, state::power_on(0, 0));
+        return refused(Answer::Malformed, state::power_on(0, 0, 0));
     }
     if memory.len() == 0 {
-        return refused(Answer::WrongMemory, state::power_on(0, 0));
+        return refused(Answer::WrongMemory, state::power_on(0, 0, 0));
     }
     if memory.len() > 32768 {
-        return refused(Answer::WrongMemory, state::power_on(0, 0));
+        return refused(Answer::WrongMemory, state::power_on(0, 0, 0));
     }
-    done(0, state::power_on(geo, memory.len() as u32))
+    done(0, state::power_on(0, geo, memory.len() as u32))
 }
 
 // A call that is refused: all stays as it was.

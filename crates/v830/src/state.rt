@@ -1,29 +1,34 @@
 // What the registers of a V830 mean, and whether its record is one that there is.
 ghost use mathlib.Core.Path.{_≡_};
-ghost use Rattle.v830.specs.State.{isSet, mode, settings, storeFits, explained, formed, powerOn};
-use crate::Store;
+ghost use Rattle.v830.specs.State.{isSet, mode, settings, explained, formed, powerOn, withTriggers};
+use crate::Tallies;
 use crate::V830;
 use layout::Settings;
-use layout::Words;
 
-// A V830 as it is at power-on.
-pub(crate) fn power_on(geo: u32, capacity: u32) -> V830
-    ensures { λ r. ⌜ r ≡ powerOn geo capacity ⌝ }
+// A V830 as it is at power-on, with this Control.
+pub(crate) fn power_on(control: u8, geo: u32, capacity: u32) -> V830
+    ensures { λ r. ⌜ r ≡ powerOn control geo capacity ⌝ }
 {
-    let store = Store {
-        capacity: Words(capacity),
-        first: 0,
-        stored: Words(0),
-    };
+    let store = meb::empty(capacity);
+    let tallies = Tallies { triggers: 0 };
     V830 {
         counts: [0; 32],
         enable: 4294967295,
-        control: 0,
-        triggers: 0,
-        veto: false,
         geo,
         store,
+        tallies,
+        control,
+        veto: false,
     }
+}
+
+// The tallies with another Trigger Counter.
+pub(crate) fn with_triggers(n: u32, t: Tallies) -> Tallies
+    ensures { λ r. ⌜ r ≡ withTriggers n t ⌝ }
+{
+    let mut t = t;
+    t.triggers = n;
+    t
 }
 
 // Whether a bit of Control is set.
@@ -54,24 +59,6 @@ pub(crate) fn settings(s: V830) -> Settings
     }
 }
 
-// Whether capacity, first place and stored words are within their bounds.
-fn store_fits(m: Store) -> bool
-    ensures { λ r. ⌜ r ≡ storeFits m ⌝ }
-{
-    let capacity = m.capacity;
-    let stored = m.stored;
-    if capacity.0 < 1 {
-        return false;
-    }
-    if capacity.0 > 32768 {
-        return false;
-    }
-    if m.first >= capacity.0 {
-        return false;
-    }
-    stored.0 <= capacity.0
-}
-
 // Whether the words stored can be those of events, which have words where a channel is enabled or there is a header.
 fn is_explained(s: V830) -> bool
     ensures { λ r. ⌜ r ≡ explained s ⌝ }
@@ -95,7 +82,7 @@ pub(crate) fn is_formed(s: V830) -> bool
         return false;
     }
     let store = s.store;
-    if !store_fits(store) {
+    if !meb::fits(store) {
         return false;
     }
     if !is_explained(s) {

@@ -4,6 +4,7 @@ use mathlib.Core.List.{[]}
 use native.Mathlib.Omega.{arith}
 use denote.Ref.{now}
 use borrow.Author.Tests.{eq-eqb, ne-eqb}
+use Rattle.meb.specs.Ring.{lent}
 use Rattle.night.specs.declared.Next.the-variants.{Bytes, Nothing}
 use Rattle.night.proofs.Going.{nothing-put, fault-put}
 use borrow.Author.Needs.{needs}
@@ -20,7 +21,7 @@ returns : tie.Need-returns
 returns c =
     let a = c .before .before .before .before .before .args in
     let e = sym (c .before .before .wants-bytes .ensures) ∙ c .before .if1 .taken in
-    let p = nothing-put (a .used) (a .at) (a .night) Bytes [] (now (a .out)) (omega arith) in
+    let p = nothing-put (a .used) (a .at) (a .night) Bytes (lent []) (now (a .out)) (omega arith) in
     rw e (c .here .ensures ∙ p .0, p .1)
 
 here-requires-2 : tie.Need-here-requires-2
@@ -30,7 +31,7 @@ returns-2 : tie.Need-returns-2
 returns-2 c =
     let a = c .before .before .before .before .before .before .args in
     let e = sym (c .before .before .before .wants-bytes .ensures) ∙ c .before .before .if1 .left in
-    let p = nothing-put (a .used) (a .at) (a .night) Nothing [] (now (a .out)) (omega arith) in
+    let p = nothing-put (a .used) (a .at) (a .night) Nothing (lent []) (now (a .out)) (omega arith) in
     rw (e, eq-eqb _ _ (c .before .if2 .taken)) (c .here2 .ensures ∙ p .0, p .1)
 
 fault-number-requires : tie.Need-fault-number-requires
@@ -52,7 +53,7 @@ returns-3 c =
     let a = c .before .before .before .before .before .before .before .before .before .before .before .args in
     let e = sym (b .before .before .wants-bytes .ensures) ∙ b .before .if1 .left in
     let k = f .before .fault-number .ensures in
-    let p = fault-put (a .used) (a .at) (f .before .fault-number .result) (a .night .place) (a .night) [] (now (a .out)) (f .put-fault .last .0) (f .put-fault .result) (omega arith) (f .put-fault .ensures .0) (f .put-fault .ensures .1) in
+    let p = fault-put (a .used) (a .at) (f .before .fault-number .result) (a .night .place) (a .night) (lent []) (now (a .out)) (f .put-fault .last .0) (f .put-fault .result) (omega arith) (f .put-fault .ensures .0) (f .put-fault .ensures .1) in
     rw (e, ne-eqb _ _ (b .if2 .left), ← k) (c .here3 .ensures ∙ p .0, p .1)
 
 pub stop-spec : {M : Type 1} → statement M

@@ -6,8 +6,8 @@ use Rattle.night.proofs.take.Tie as tie
 call-830-of-requires : tie.Need-call-830-of-requires
 call-830-of-requires c κs = search needs
 
-step-requires : tie.Need-step-requires
-step-requires c κs = search needs
+step-formed-requires : tie.Need-step-formed-requires
+step-formed-requires c κs = search needs
 
 numbered-requires : tie.Need-numbered-requires
 numbered-requires c κs = search needs
@@ -26,14 +26,14 @@ returns c =
     let b = c .before .before .before in
     let d = b .before .before .before in
     let e = d .before .call-830-of .ensures in
-    (rw (c .wrapping-add-u642 .ensures, c .before .wrapping-add-u64 .ensures, b .numbered .ensures, d .step .ensures .0, e), rw (← e) (d .step .ensures .1))
+    (rw (c .wrapping-add-u642 .ensures, c .before .wrapping-add-u64 .ensures, b .numbered .ensures, d .step-formed .ensures .0, e), rw (← e) (d .step-formed .ensures .1))
 
 pub take-spec : {M : Type 1} → statement M
 take-spec =
     tie.close
     (tie.spec
     call-830-of-requires
-    step-requires
+    step-formed-requires
     numbered-requires
     wrapping-add-u64-requires
     wrapping-add-u64-requires-2

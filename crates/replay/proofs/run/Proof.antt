@@ -12,11 +12,8 @@ Inv-loop buf₀ out₀ memory₀ at course₀ turns₀ buf out memory course tur
 abbrev μ-loop : tie.MeasureT-loop
 μ-loop buf₀ out₀ memory₀ at course₀ turns₀ buf out memory course turns = turns
 
-slice-aggregate-put-text : tie.Need-slice-aggregate-put-text Inv-loop μ-loop
-slice-aggregate-put-text c = search needs
-
-put-text-requires : tie.Need-put-text-requires Inv-loop μ-loop
-put-text-requires c κs = search needs
+put-heading-requires : tie.Need-put-heading-requires Inv-loop μ-loop
+put-heading-requires c κs = search needs
 
 flush-requires : tie.Need-flush-requires Inv-loop μ-loop
 flush-requires c κs = search needs
@@ -72,8 +69,7 @@ run-spec =
     (tie.spec
     Inv-loop
     μ-loop
-    slice-aggregate-put-text
-    put-text-requires
+    put-heading-requires
     flush-requires
     begin-requires
     begin-requires-2

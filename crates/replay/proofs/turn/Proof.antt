@@ -2,8 +2,9 @@
 use Prim.Native.Nat.{_+_, _-_, _≤_}
 use native.Mathlib.Omega.{arith}
 use denote.Ref.{now}
-use lib.ListN.{length, take, drop, length-drop}
+use lib.ListN.{take, drop, length-drop}
 use lib.Seq.{length-take-le}
+use Rattle.meb.specs.Ring.{lent}
 use Rattle.night.proofs.Going.{part-used}
 use borrow.Author.Needs.{needs}
 use Rattle.replay.proofs.turn.Statement.{statement}
@@ -14,7 +15,7 @@ shown : (c : tie.After-replay) → c .before .before .before .before .before .be
 shown c =
     let a = c .before .before .before .before .before .before .before .before .before .before .args in
     let l = a .course .listing in
-    let u : c .replay .result .used ≤ length (take (l .have - l .used) (drop (l .used) (now (a .buf)))) = part-used _ _ _ _ _ _ (c .replay .ensures .0) in
+    let u = part-used (c .replay .result) (now (a .out)) (l .ended) (take (l .have - l .used) (drop (l .used) (now (a .buf)))) (a .course .night) (lent (now (a .memory))) (c .replay .ensures .0) in
     let e = length-take-le (l .have - l .used) (drop (l .used) (now (a .buf))) (omega (arith, length-drop (l .used) (now (a .buf)))) in
     omega (arith, u, e)
 

@@ -5,6 +5,7 @@ use Prim.Native.Nat.{_+_, _-_, _≤_, _<_}
 use native.Mathlib.Omega.{arith}
 use lib.ListN.{length, drop, take}
 use borrow.Author.Tests.{ltb-true, ltb-false, not-true, not-false}
+use Rattle.meb.specs.Ring.{lent}
 use Rattle.cases.specs.Running.{wrongFrom}
 use Rattle.cases.proofs.Steps.{unmapped, short, short-of, one-wrong, one-right, all-right, not-admitted}
 use borrow.Author.Needs.{needs}
@@ -14,7 +15,7 @@ use Rattle.cases.proofs.running.first_wrong.Tie as tie
 abbrev Inv-loop : tie.InvT-loop
 Inv-loop c memory₀ lines b₀ k₀ memory b k =
     (k ≤ 10) × (length memory ≡ length memory₀)
-    × (wrongFrom (k + 1) (c .admitted) b memory (drop k (take (c .many) lines)) ≡ wrongFrom 1 (c .admitted) b₀ memory₀ (take (c .many) lines))
+    × (wrongFrom (k + 1) (c .pulses) b (lent memory) (drop k (take (c .many) lines)) ≡ wrongFrom 1 (c .pulses) b₀ (lent memory₀) (take (c .many) lines))
 
 abbrev μ-loop : tie.MeasureT-loop
 μ-loop c memory₀ lines b₀ k₀ memory b k = 10 - k
@@ -58,7 +59,7 @@ returns c =
     let n = ten (g .before .before .before .before .before) in
     let h : l .k < 10 = ltb-true (l .k) 10 (s .if2 .taken) in
     sym
-    (one-wrong (a .c .admitted) (a .c .many) (l .k) (l .b) (l .memory) (a .c .lines) _ (s .before .if1 .taken) (omega arith) (t .turn .result) (t .turn .ensures .0)
+    (one-wrong (a .c .pulses) (a .c .many) (l .k) (l .b) (lent (l .memory)) (a .c .lines) _ (s .before .if1 .taken) (omega arith) (t .turn .result) (t .turn .ensures .0)
     (sym (i .is-expected .ensures) ∙ not-true (i .is-expected .result) (c .if3 .taken)))
     ∙ l .inv .2
     ∙ rw (g .begin .ensures)
@@ -86,7 +87,7 @@ loop-again c =
     let h : l .k < 10 = ltb-true (l .k) 10 (s .if2 .taken) in (
       omega arith,
       search needs,
-      one-right (a .c .admitted) (a .c .many) (l .k) (l .b) (l .memory) (a .c .lines) _ (s .before .if1 .taken) (omega arith) (t .turn .result) (t .turn .ensures .0)
+      one-right (a .c .pulses) (a .c .many) (l .k) (l .b) (lent (l .memory)) (a .c .lines) _ (s .before .if1 .taken) (omega arith) (t .turn .result) (t .turn .ensures .0)
           _ (t .turn .ensures .1) (sym (i .is-expected .ensures) ∙ not-false (i .is-expected .result) (c .before .if3 .left))
           ∙ l .inv .2,
     )
@@ -109,7 +110,7 @@ returns-2 c =
     (λ w. short-of (l .k) (a .c .many) (a .c .lines) (rw n (ltb-false (l .k) 10 (w .1 .left))))
     (λ w. short (l .k) (a .c .many) (a .c .lines) (w .left))
     (j .if1 .came) in
-    sym (all-right (a .c .admitted) (a .c .many) (l .k) (l .b) (l .memory) (a .c .lines) over (c .if4 .taken)) ∙ l .inv .2 ∙ rw (g .begin .ensures)
+    sym (all-right (a .c .pulses) (a .c .many) (l .k) (l .b) (lent (l .memory)) (a .c .lines) over (c .if4 .taken)) ∙ l .inv .2 ∙ rw (g .begin .ensures)
 
 same-length-3 : tie.Need-same-length-3 Inv-loop μ-loop
 same-length-3 c = search needs
@@ -126,7 +127,7 @@ returns-3 c =
     (λ w. short-of (l .k) (a .c .many) (a .c .lines) (rw n (ltb-false (l .k) 10 (w .1 .left))))
     (λ w. short (l .k) (a .c .many) (a .c .lines) (w .left))
     (j .if1 .came) in
-    sym (not-admitted (a .c .admitted) (a .c .many) (l .k) (l .b) (l .memory) (a .c .lines) over (c .if4 .left)) ∙ l .inv .2 ∙ rw (g .begin .ensures)
+    sym (not-admitted (a .c .pulses) (a .c .many) (l .k) (l .b) (lent (l .memory)) (a .c .lines) over (c .if4 .left)) ∙ l .inv .2 ∙ rw (g .begin .ensures)
 
 pub first-wrong-spec : {M : Type 1} → statement M
 first-wrong-spec =

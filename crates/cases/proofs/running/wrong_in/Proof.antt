@@ -1,8 +1,10 @@
 -- The words that are lent are so many zeros. Assumes nothing.
 use mathlib.Core.Path.{sym, ap, _∙_}
+use mathlib.Core.List.{List}
 use Prim.Native.Nat.{ℕ}
 use lib.ListN.{replicate}
 use lib.Seq.{length-take-le}
+use Rattle.meb.specs.Ring.{lent}
 use Rattle.cases.specs.Running.{wrongWith}
 use Rattle.cases.proofs.Steps.{zeros}
 use borrow.Author.Needs.{needs}
@@ -25,7 +27,7 @@ returns : tie.Need-returns
 returns c =
     let l = c .before .before .before in
     let words = zeros (l .lent .result) 66 (l .lent .ensures .1) ∙ ap (λ (n : ℕ). replicate {A = ℕ} n 0) (l .lent .ensures .0) in
-    c .before .first-wrong .ensures ∙ ap (wrongWith (l .before .before .args .c)) words
+    c .before .first-wrong .ensures ∙ ap (λ (ws : List ℕ). wrongWith (l .before .before .args .c) (lent ws)) words
 
 pub wrong-in-spec : {M : Type 1} → statement M
 wrong-in-spec =

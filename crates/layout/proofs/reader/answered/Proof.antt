@@ -2,10 +2,9 @@
 use mathlib.Core.Path.{sym, _∙_}
 use mathlib.Core.Bool.{true, false}
 use denote.Ref.{now}
-use borrow.Author.Tests.{eq-eqb, ne-eqb}
 use Rattle.layout.specs.Reader.{readAnswer}
 use Rattle.layout.proofs.Answers.{read-by-header}
-use Rattle.layout.proofs.Lengths.{length-of}
+use Rattle.layout.proofs.Lengths.{none, some, length-of}
 use borrow.Author.Needs.{needs}
 use Rattle.layout.proofs.reader.answered.Statement.{statement}
 use Rattle.layout.proofs.reader.answered.Tie as tie
@@ -15,11 +14,11 @@ event-length-requires c κs = search needs
 
 returns : tie.Need-returns
 unfolding readAnswer
-returns c = rw (length-of (c .before .before .before .before .args .settings) (c .before .before .event-length .ensures), eq-eqb _ _ (c .if1 .taken))
+returns c = rw (length-of (c .before .before .before .before .args .settings) (c .before .before .event-length .ensures), none _ (c .if1 .taken))
 
 returns-2 : tie.Need-returns-2
 unfolding readAnswer
-returns-2 c = rw (length-of (c .before .before .before .before .before .args .settings) (c .before .before .before .event-length .ensures), ne-eqb _ _ (c .before .if1 .left), eq-eqb _ _ (c .if2 .taken))
+returns-2 c = rw (length-of (c .before .before .before .before .before .args .settings) (c .before .before .before .event-length .ensures), some _ (c .before .if1 .left), none _ (c .if2 .taken))
 
 shared-slice-read-header-answered : tie.Need-shared-slice-read-header-answered
 shared-slice-read-header-answered c = search needs

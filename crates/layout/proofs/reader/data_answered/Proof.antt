@@ -2,7 +2,7 @@
 use mathlib.Core.Path.{ap, _∙_}
 use lib.ListN.{drop}
 use Rattle.layout.specs.declared.Answer.the-variants.{Done}
-use Rattle.layout.specs.Numbers.{done}
+use Rattle.layout.specs.Numbers.{givesLength}
 use Rattle.layout.specs.Reader.{dataAnswer}
 use Rattle.layout.specs.Length.{enabledChannels, headerLength}
 use Rattle.layout.proofs.Turns.{Left, left-start, left-room}
@@ -13,7 +13,7 @@ use Rattle.layout.proofs.reader.data_answered.Statement.{statement}
 use Rattle.layout.proofs.reader.data_answered.Tie as tie
 
 abbrev Inv-loop : tie.InvT-loop
-Inv-loop settings words at₀ left₀ at left = Left (λ ks ws. dataAnswer ks ws (done settings)) (dataAnswer (enabledChannels (settings .enable)) (drop (headerLength settings) words) (done settings)) words at left
+Inv-loop settings words at₀ left₀ at left = Left (λ ks ws. dataAnswer ks ws (givesLength settings)) (dataAnswer (enabledChannels (settings .enable)) (drop (headerLength settings) words) (givesLength settings)) words at left
 
 abbrev μ-loop : tie.MeasureT-loop
 μ-loop settings words at₀ left₀ at left = left
@@ -40,14 +40,14 @@ returns c =
     let l = c .before .before .before .before .loop in
     let a = c .before .before .before .before .before .before .before .args in
     let n = c .before .before .next-channel in
-    data-bit-26 (done (a .settings)) (l .inv) (n .result .channel) (n .result .left) (n .ensures .0) (c .if1 .taken)
+    data-bit-26 (givesLength (a .settings)) (l .inv) (n .result .channel) (n .result .left) (n .ensures .0) (c .if1 .taken)
 
 returns-2 : tie.Need-returns-2 Inv-loop μ-loop
 returns-2 c =
     let l = c .before .before .before .before .before .loop in
     let a = c .before .before .before .before .before .before .before .before .args in
     let n = c .before .before .before .next-channel in
-    data-channel (done (a .settings)) (l .inv) (n .result .channel) (n .result .left) (n .ensures .0) (c .before .if1 .left) (c .if2 .taken)
+    data-channel (givesLength (a .settings)) (l .inv) (n .result .channel) (n .result .left) (n .ensures .0) (c .before .if1 .left) (c .if2 .taken)
 
 add-at : tie.Need-add-at Inv-loop μ-loop
 add-at c = let n = c .before .before .before .next-channel in omega (arith, left-room (c .before .before .before .before .before .loop .inv) (n .result .channel) (n .result .left) (n .ensures .0))
@@ -60,7 +60,7 @@ loop-again c =
     let l = c .before .before .before .before .before .loop in
     let a = c .before .before .before .before .before .before .before .before .args in
     let n = c .before .before .before .next-channel in
-    data-next (done (a .settings)) (l .inv) (n .result .channel) (n .result .left) (n .ensures .0) (c .before .if1 .left) (c .if2 .left)
+    data-next (givesLength (a .settings)) (l .inv) (n .result .channel) (n .result .left) (n .ensures .0) (c .before .if1 .left) (c .if2 .left)
 
 event-length-requires : tie.Need-event-length-requires Inv-loop μ-loop
 event-length-requires c κs = search needs
@@ -68,7 +68,7 @@ event-length-requires c κs = search needs
 returns-3 : tie.Need-returns-3 Inv-loop μ-loop
 returns-3 c =
     let a = c .before .before .before .before .before .args in
-    ap Done (c .event-length .ensures) ∙ data-over (done (a .settings)) (c .before .before .loop .inv) (search needs)
+    ap Done (c .event-length .ensures) ∙ data-over (givesLength (a .settings)) (c .before .before .loop .inv) (search needs)
 
 pub data-answered-spec : {M : Type 1} → statement M
 data-answered-spec =

@@ -1,6 +1,6 @@
 -- The data left and the words from the place reached give the counts; one turn is one clause of the definition. Assumes nothing.
 use lib.ListN.{drop, replicate}
-use Rattle.layout.specs.Reader.{countsIn}
+use Rattle.layout.specs.Reader.{countsRead}
 use Rattle.layout.specs.Length.{enabledChannels, headerLength}
 use Rattle.layout.proofs.Turns.{Left, left-start, left-room}
 use Rattle.layout.proofs.Data.{counts-next, counts-over}
@@ -10,7 +10,7 @@ use Rattle.layout.proofs.reader.decoded_counts.Statement.{statement}
 use Rattle.layout.proofs.reader.decoded_counts.Tie as tie
 
 abbrev Inv-loop : tie.InvT-loop
-Inv-loop settings words counts₀ at₀ left₀ counts at left = Left (λ ks ws. countsIn (settings .short) ks ws counts) (countsIn (settings .short) (enabledChannels (settings .enable)) (drop (headerLength settings) words) (replicate 32 0)) words at left
+Inv-loop settings words counts₀ at₀ left₀ counts at left = Left (λ ks ws. countsRead (settings .short) ks ws counts) (countsRead (settings .short) (enabledChannels (settings .enable)) (drop (headerLength settings) words) (replicate 32 0)) words at left
 
 abbrev μ-loop : tie.MeasureT-loop
 μ-loop settings words counts₀ at₀ left₀ counts at left = left

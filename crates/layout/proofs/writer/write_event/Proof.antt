@@ -1,5 +1,5 @@
 -- The tests of the definition; an event that can be written has fields that fit its header. Assumes nothing.
-use borrow.Author.Tests.{eq-eqb, ne-eqb, lt-ltb}
+use borrow.Author.Tests.{lt-leb}
 use mathlib.Core.Path.{_≡_, refl, sym, ap, _∙_}
 use mathlib.Core.Bool.{true}
 use Prim.Native.Nat.{_≤_}
@@ -11,7 +11,7 @@ use Rattle.layout.specs.Length.{eventLength}
 use Rattle.layout.specs.Writer.{writable, writeAnswer, writeWords}
 use Rattle.layout.proofs.Answers.{fields-fit, writable-parts}
 use Rattle.layout.proofs.Written.{write-answers, stored-words, write-leaves}
-use Rattle.layout.proofs.Lengths.{length-of}
+use Rattle.layout.proofs.Lengths.{none, some, length-of}
 use borrow.Author.Needs.{needs}
 use Rattle.layout.proofs.writer.write_event.Statement.{statement}
 use Rattle.layout.proofs.writer.write_event.Tie as tie
@@ -21,7 +21,7 @@ event-length-requires c κs = search needs
 
 returns : tie.Need-returns
 unfolding writeAnswer writeWords
-returns c = rw (length-of (c .before .before .before .before .args .settings) (c .before .before .event-length .ensures), eq-eqb _ _ (c .if1 .taken)) (refl, refl)
+returns c = rw (length-of (c .before .before .before .before .args .settings) (c .before .before .event-length .ensures), none _ (c .if1 .taken)) (refl, refl)
 
 is-writable-requires : tie.Need-is-writable-requires
 is-writable-requires c κs = search needs
@@ -30,7 +30,7 @@ returns-2 : tie.Need-returns-2
 unfolding writeAnswer writeWords
 returns-2 c =
     let w = c .before .is-writable in
-    rw (length-of (c .before .before .before .before .before .before .args .settings) (c .before .before .before .before .event-length .ensures), ne-eqb _ _ (c .before .before .if1 .left), fails (w .ensures) (c .if2 .taken)) (refl, refl)
+    rw (length-of (c .before .before .before .before .before .before .args .settings) (c .before .before .before .before .event-length .ensures), some _ (c .before .before .if1 .left), fails (w .ensures) (c .if2 .taken)) (refl, refl)
 
 cast-if3 : tie.Need-cast-if3
 cast-if3 c = search needs
@@ -39,7 +39,7 @@ returns-3 : tie.Need-returns-3
 unfolding writeAnswer writeWords
 returns-3 c =
     let w = c .before .before .before .is-writable in
-    rw (length-of (c .before .before .before .before .before .before .before .before .args .settings) (c .before .before .before .before .before .before .event-length .ensures), ne-eqb _ _ (c .before .before .before .before .if1 .left), holds (w .ensures) (c .before .before .if2 .left), lt-ltb _ _ (c .if3 .taken))
+    rw (length-of (c .before .before .before .before .before .before .before .before .args .settings) (c .before .before .before .before .before .before .event-length .ensures), some _ (c .before .before .before .before .if1 .left), holds (w .ensures) (c .before .before .if2 .left), lt-leb _ _ (c .if3 .taken))
     (refl, refl)
 
 put-event-requires : tie.Need-put-event-requires
@@ -62,7 +62,7 @@ returns-4 c =
     let can : writable (s .settings) (s .event) ≡ true = holds (w .ensures) (c .before .before .before .before .before .before .if2 .left) in
     let room : eventLength (s .settings) ≤ length (now (s .words)) = rw e (c .before .before .before .before .if3 .left) in (
       ap Done (c .before .before .before .before .before .before .before .before .before .before .event-length .ensures) ∙ sym (write-answers (s .settings) (s .event) (now (s .words)) some can room),
-      c .before .before .put-event .ensures ∙ stored-words (s .settings) (s .event) (now (s .words)) (search needs) room ∙ sym (write-leaves (s .settings) (s .event) (now (s .words)) some can room),
+      c .before .before .put-event .ensures ∙ stored-words (s .settings) (s .event) (now (s .words)) room ∙ sym (write-leaves (s .settings) (s .event) (now (s .words)) some can room),
     )
 
 pub write-event-spec : {M : Type 1} → statement M
