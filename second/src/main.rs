@@ -3,140 +3,68 @@
 
 #![forbid(unsafe_code)]
 
-mod block;
-mod blocks_listing;
-mod books;
-mod break_events;
-mod break_heads;
-mod case;
 mod compare;
-mod compare_blocks;
-mod compare_entries;
-mod compare_logs;
-mod compare_makeblock;
-mod compare_replay;
-mod compare_trace;
-mod cut_replays;
-mod edge_replays;
-mod edge_tally;
-mod failing;
-mod fixed_blocks;
-mod fixed_cases;
-mod fixed_replays;
-mod fixed_requests;
-mod fixed_traces;
-mod fixed_v830_traces;
-mod head;
-mod ledger;
-mod log;
-mod log_listing;
-mod long_blocks;
-mod long_replays;
-mod long_traces;
-mod make_blocks;
-mod make_entries;
-mod make_events;
-mod make_logs;
-mod make_night;
-mod make_numbers;
-mod make_replays;
-mod make_requests;
-mod make_trace_calls;
-mod make_trace_heads;
-mod make_traces;
-mod make_v830_calls;
-mod make_v830_heads;
-mod makeblock_listing;
-mod module;
-mod own_module;
-mod printed;
-mod registers;
-mod replay_listing;
-mod rng;
-mod run;
-mod runs;
-mod scaler;
-mod shrink;
-mod shrink_trace;
-mod tally;
-mod trace_head;
-mod trace_listing;
-mod trace_scripts;
-mod trace_tally;
+mod inputs;
+mod listings;
+mod model;
 mod use_words;
-mod v260;
-mod v560;
-mod v830;
-mod v830_scripts;
-mod v830_tally;
 
 #[cfg(test)]
-mod v830_cases;
+mod cases;
 #[cfg(test)]
-mod wrong_accesses;
-#[cfg(test)]
-mod wrong_block_listings;
-#[cfg(test)]
-mod wrong_block_readers;
-#[cfg(test)]
-mod wrong_block_writers;
-#[cfg(test)]
-mod wrong_edges;
-#[cfg(test)]
-mod wrong_modules;
-#[cfg(test)]
-mod wrong_readers;
-#[cfg(test)]
-mod wrong_replays;
-#[cfg(test)]
-mod wrong_slips;
-#[cfg(test)]
-mod wrong_trace_listings;
-#[cfg(test)]
-mod wrong_traces;
-#[cfg(test)]
-mod wrong_v830;
-#[cfg(test)]
-mod wrong_v830_slips;
-#[cfg(test)]
-mod wrong_v830_store;
-#[cfg(test)]
-mod wrong_v830_traces;
+mod wrong;
 
-use std::io::{self, Read, Write};
+use compare::blocks::compare_blocks;
+use compare::difference::Verdict;
+use compare::entries::compare_entries;
+use compare::failures::compare_failures;
+use compare::logs::compare_logs;
+use compare::makeblock::compare_makeblock;
+use compare::replay::compare_replay;
+use compare::run;
+use compare::trace::compare_trace;
+use inputs::replay::night::write_night;
+use listings::end::{is_cut, read_all, End};
+use listings::kind::Kind;
+use std::fs::File;
+use std::io::{self, Write};
+use std::os::unix::io::AsFd;
 use std::process::ExitCode;
-use use_words::{Subject, Use};
+use use_words::Use;
 
 /// Does what the command line asks for.
 fn main() -> ExitCode {
     let words: Vec<_> = std::env::args_os().skip(1).collect();
     let (text, code) = match use_words::parse(&words) {
         Ok(Use::Help) => (use_words::HELP.to_string(), 0),
-        Ok(Use::Answer(subject)) => match answer(subject) {
-            Ok(listing) => (listing, 0),
-            Err(error) => return complain(&format!("standard input: {}", error), 1),
-        },
+        Ok(Use::Answer(kind)) => return answer(kind),
         Ok(Use::Night { entries, seed }) => {
-            return match make_night::write_night(&mut io::stdout().lock(), entries, seed) {
+            return match write_night(&mut io::stdout().lock(), entries, seed) {
                 Ok(()) => ExitCode::SUCCESS,
                 Err(error) => complain(&format!("standard output: {}", error), 1),
             };
         }
+        Ok(Use::Failures {
+            kind,
+            seed,
+            command,
+        }) => {
+            let program = |input: &[u8], most: usize| run::run_failing(&command, input, most);
+            let verdict = compare_failures(&program, kind, seed);
+            (verdict.words, u8::from(!verdict.agreed))
+        }
         Ok(Use::Compare {
-            subject,
+            kind,
             seed,
             cases,
             command,
         }) => {
-            let verdict = compare(subject, seed, cases, &command);
+            let verdict = compare(kind, seed, cases, &command);
             (verdict.words, u8::from(!verdict.agreed))
         }
         Err(fault) => return complain(&format!("{}; see second --help", fault), 2),
     };
-    match io::stdout().write_all(text.as_bytes()) {
-        Ok(()) => ExitCode::from(code),
-        Err(error) => complain(&format!("standard output: {}", error), 1),
-    }
+    print(&text, ExitCode::from(code))
 }
 
 /// Says on standard error what is wrong.
@@ -145,38 +73,45 @@ fn complain(words: &str, code: u8) -> ExitCode {
     ExitCode::from(code)
 }
 
-/// This program's own listing of standard input.
-fn answer(subject: Subject) -> io::Result<String> {
-    let mut input = Vec::new();
-    io::stdin().read_to_end(&mut input)?;
-    Ok(match subject {
-        Subject::Logs => log_listing::list_cases(&input, &log_listing::OWN_READER),
-        Subject::Entries => log_listing::list_entries(&input, &log_listing::OWN_READER),
-        Subject::Blocks => blocks_listing::own_blocks(&input),
-        Subject::Makeblock => makeblock_listing::own_makeblock(&input),
-        Subject::Trace => trace_listing::own_trace(&input),
-        Subject::Replay => replay_listing::own_replay(&input),
-    })
+/// Prints a text; the exit code, if that is done.
+fn print(text: &str, code: ExitCode) -> ExitCode {
+    match io::stdout().write_all(text.as_bytes()) {
+        Ok(()) => code,
+        Err(error) => complain(&format!("standard output: {}", error), 1),
+    }
+}
+
+/// Prints this program's own listing of standard input, and says if a failed read cut it.
+fn answer(kind: Kind) -> ExitCode {
+    // As a file: Stdin itself takes a standard input that cannot be read for an empty one.
+    let (input, end) = match io::stdin().as_fd().try_clone_to_owned() {
+        Ok(input) => read_all(&mut File::from(input)),
+        Err(error) => return complain(&format!("standard input: {}", error), 1),
+    };
+    let listing = kind.listing(&input, end);
+    let printed = print(&listing, ExitCode::SUCCESS);
+    match end {
+        End::Failed(number) if is_cut(&listing) => {
+            let error = io::Error::from_raw_os_error(number);
+            complain(&format!("standard input: {}", error), 1)
+        }
+        _ => printed,
+    }
 }
 
 /// The comparison asked for.
-fn compare(
-    subject: Subject,
-    seed: u64,
-    cases: usize,
-    command: &[std::ffi::OsString],
-) -> compare::Verdict {
+fn compare(kind: Kind, seed: u64, cases: usize, command: &[std::ffi::OsString]) -> Verdict {
     let program = |input: &[u8], most: usize| run::run(command, input, most);
-    match subject {
-        Subject::Logs => compare_logs::compare_logs(&program, seed, cases),
-        Subject::Entries => compare_entries::compare_entries(&program, seed),
-        Subject::Blocks => compare_blocks::compare_blocks(&program, seed, cases),
-        Subject::Makeblock => compare_makeblock::compare_makeblock(&program, seed, cases),
-        Subject::Trace => compare_trace::compare_trace(&program, seed, cases),
-        Subject::Replay => {
+    match kind {
+        Kind::Logs => compare_logs(&program, seed, cases),
+        Kind::Entries => compare_entries(&program, seed),
+        Kind::Blocks => compare_blocks(&program, seed, cases),
+        Kind::Makeblock => compare_makeblock(&program, seed, cases),
+        Kind::Trace => compare_trace(&program, seed, cases),
+        Kind::Replay => {
             let filled = |input: &[u8], most: usize| run::run_filled(command, input, most);
             let in_pieces = |input: &[u8], most: usize| run::run_in_pieces(command, input, most);
-            compare_replay::compare_replay(&filled, &in_pieces, seed, cases)
+            compare_replay(&filled, &in_pieces, seed, cases)
         }
     }
 }

@@ -1,10 +1,12 @@
 //! The command line: what is asked for, and the words of the help.
 
-use crate::compare_blocks::DEFAULT_BLOCKS;
-use crate::compare_logs::DEFAULT_CASES;
-use crate::compare_makeblock::DEFAULT_REQUESTS;
-use crate::compare_replay::DEFAULT_LOGS;
-use crate::compare_trace::DEFAULT_RUNS;
+use crate::compare::blocks::DEFAULT_BLOCKS;
+use crate::compare::logs::DEFAULT_CASES;
+use crate::compare::makeblock::DEFAULT_REQUESTS;
+use crate::compare::replay::DEFAULT_LOGS;
+use crate::compare::trace::DEFAULT_RUNS;
+use crate::inputs::rng::DEFAULT_SEED;
+use crate::listings::kind::{Kind, KINDS};
 use std::ffi::OsString;
 
 pub const HELP: &str = "\
@@ -36,6 +38,11 @@ compares the proved programs' listings (docs/FORMATS.md) with its own.
       pieces, logs and listings longer than 65,536 bytes, and logs whose longest
       entries lie over an edge of these at every split, whole and cut. A long
       log is a file in TMPDIR, removed at once; a shorter one comes by a pipe.
+  second compare failures [--seed N] -- KIND COMMAND [ARGS..]
+      Inputs of KIND (one of the above) whose reading fails behind some byte with
+      error 11, each in a run of COMMAND of its own: short ones at every byte,
+      random ones, and about a buffer's edge of 65,536 bytes. COMMAND must list
+      what second answer KIND does, ending in: failed read 11.
   second answer logs
       Reads cases on standard input, prints the listing of logcases.
   second answer entries
@@ -58,35 +65,23 @@ compares the proved programs' listings (docs/FORMATS.md) with its own.
   second --help
       Prints this.
 
-Exit code: 0 all agree; 1 a mismatch, COMMAND failed, or an answer never
-occurred; 2 bad use. The seed is fixed unless --seed gives another.
+An answer whose reading fails is the listing of the bytes read until then; it
+ends in the line: failed read NUMBER, unless a fault before it has ended it.
+
+Exit code: 0 all agree; 1 a mismatch, COMMAND failed, an answer never
+occurred, or a read failed; 2 bad use. The seed is fixed unless --seed gives
+another.
 ";
 
-/// The seed unless another is asked for.
-pub const DEFAULT_SEED: u64 = 260_560_830;
-
-/// What a comparison or an answer is about.
-#[derive(Clone, Copy, Debug, PartialEq, Eq)]
-pub enum Subject {
-    Logs,
-    Entries,
-    Blocks,
-    Makeblock,
-    Trace,
-    Replay,
-}
-
-impl Subject {
-    /// The number of random cases unless another is asked for; none where it cannot be.
-    fn default_cases(self) -> Option<usize> {
-        match self {
-            Subject::Logs => Some(DEFAULT_CASES),
-            Subject::Entries => None,
-            Subject::Blocks => Some(DEFAULT_BLOCKS),
-            Subject::Makeblock => Some(DEFAULT_REQUESTS),
-            Subject::Trace => Some(DEFAULT_RUNS),
-            Subject::Replay => Some(DEFAULT_LOGS),
-        }
+/// The number of random cases of a kind unless another is asked for; none where it cannot be.
+fn default_cases(kind: Kind) -> Option<usize> {
+    match kind {
+        Kind::Logs => Some(DEFAULT_CASES),
+        Kind::Entries => None,
+        Kind::Blocks => Some(DEFAULT_BLOCKS),
+        Kind::Makeblock => Some(DEFAULT_REQUESTS),
+        Kind::Trace => Some(DEFAULT_RUNS),
+        Kind::Replay => Some(DEFAULT_LOGS),
     }
 }
 
@@ -94,13 +89,18 @@ impl Subject {
 #[derive(Debug, PartialEq, Eq)]
 pub enum Use {
     Help,
-    Answer(Subject),
+    Answer(Kind),
     Night {
         entries: usize,
         seed: u64,
     },
+    Failures {
+        kind: Kind,
+        seed: u64,
+        command: Vec<OsString>,
+    },
     Compare {
-        subject: Subject,
+        kind: Kind,
         seed: u64,
         cases: usize,
         command: Vec<OsString>,
@@ -114,16 +114,17 @@ pub fn parse(words: &[OsString]) -> Result<Use, String> {
         None => Err("nothing is asked for".to_string()),
         Some("--help") | Some("-h") | Some("help") => Ok(Use::Help),
         Some("answer") => {
-            let subject = parse_subject(word(1).as_deref())?;
-            ended(&words[2..], Use::Answer(subject))
+            let kind = parse_kind(word(1).as_deref())?;
+            ended(&words[2..], Use::Answer(kind))
         }
-        Some("replay") => ended(&words[1..], Use::Answer(Subject::Replay)),
+        Some("replay") => ended(&words[1..], Use::Answer(Kind::Replay)),
         Some("night") => {
             let entries = parse_number("ENTRIES", words.get(1))?;
             let seed = parse_number("SEED", words.get(2))?;
             ended(&words[3..], Use::Night { entries, seed })
         }
-        Some("compare") => parse_compare(parse_subject(word(1).as_deref())?, &words[2..]),
+        Some("compare") if word(1).as_deref() == Some("failures") => parse_failures(&words[2..]),
+        Some("compare") => parse_compare(parse_kind(word(1).as_deref())?, &words[2..]),
         Some(other) => Err(format!(
             "'{}' is none of compare, answer, replay and night",
             other
@@ -143,39 +144,38 @@ fn ended(rest: &[OsString], asked: Use) -> Result<Use, String> {
 }
 
 /// Reads what a comparison or an answer is about.
-fn parse_subject(word: Option<&str>) -> Result<Subject, String> {
+fn parse_kind(word: Option<&str>) -> Result<Kind, String> {
+    let named = |word: &str| KINDS.iter().find(|(name, _)| *name == word);
     match word {
-        Some("logs") => Ok(Subject::Logs),
-        Some("entries") => Ok(Subject::Entries),
-        Some("blocks") => Ok(Subject::Blocks),
-        Some("makeblock") => Ok(Subject::Makeblock),
-        Some("trace") => Ok(Subject::Trace),
-        Some("replay") => Ok(Subject::Replay),
-        Some(other) => Err(format!(
-            "'{}' is none of logs, entries, blocks, makeblock, trace and replay",
-            other
-        )),
+        Some(word) => named(word).map(|(_, kind)| *kind).ok_or_else(|| {
+            format!(
+                "'{}' is none of logs, entries, blocks, makeblock, trace and replay",
+                word
+            )
+        }),
         None => Err("logs, entries, blocks, makeblock, trace or replay must be named".to_string()),
     }
 }
 
-/// Reads the options of a comparison and its COMMAND.
-fn parse_compare(subject: Subject, words: &[OsString]) -> Result<Use, String> {
-    let default_cases = subject.default_cases();
+/// The options of a comparison and the words behind them.
+struct Options {
+    seed: u64,
+    cases: usize,
+    behind: Vec<OsString>,
+}
+
+/// Reads the options of a comparison, `--cases` only where it has a default, and the words behind `--`.
+fn parse_options(default_cases: Option<usize>, words: &[OsString]) -> Result<Options, String> {
     let (mut seed, mut cases) = (DEFAULT_SEED, default_cases.unwrap_or(0));
     let mut rest = words.iter();
     while let Some(word) = rest.next() {
         match word.to_string_lossy().as_ref() {
             "--" => {
-                let command: Vec<OsString> = rest.cloned().collect();
-                if command.is_empty() {
-                    return Err("no COMMAND behind --".to_string());
-                }
-                return Ok(Use::Compare {
-                    subject,
+                let behind = rest.cloned().collect();
+                return Ok(Options {
                     seed,
                     cases,
-                    command,
+                    behind,
                 });
             }
             "--seed" => seed = parse_number("--seed", rest.next())?,
@@ -186,6 +186,36 @@ fn parse_compare(subject: Subject, words: &[OsString]) -> Result<Use, String> {
         }
     }
     Err("-- and a COMMAND are missing".to_string())
+}
+
+/// Reads a comparison of a kind.
+fn parse_compare(kind: Kind, words: &[OsString]) -> Result<Use, String> {
+    let options = parse_options(default_cases(kind), words)?;
+    Ok(Use::Compare {
+        kind,
+        seed: options.seed,
+        cases: options.cases,
+        command: command_of(&options.behind)?,
+    })
+}
+
+/// Reads a comparison of failures, whose kind stands in front of COMMAND.
+fn parse_failures(words: &[OsString]) -> Result<Use, String> {
+    let options = parse_options(None, words)?;
+    let kind = options.behind.first().map(|word| word.to_string_lossy());
+    Ok(Use::Failures {
+        kind: parse_kind(kind.as_deref())?,
+        seed: options.seed,
+        command: command_of(&options.behind[1..])?,
+    })
+}
+
+/// The words as a COMMAND, if there are any.
+fn command_of(words: &[OsString]) -> Result<Vec<OsString>, String> {
+    match words {
+        [] => Err("no COMMAND behind --".to_string()),
+        _ => Ok(words.to_vec()),
+    }
 }
 
 /// Reads the decimal number behind an option, or that a place is for.

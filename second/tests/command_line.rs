@@ -100,6 +100,57 @@ fn it_answers() {
 }
 
 #[test]
+fn a_failed_read_is_told() {
+    // A folder can be opened, but a read of it fails with 21.
+    for (kind, told) in [
+        (
+            "logs",
+            "answer kind first second third place number value after\n",
+        ),
+        ("entries", "place kind first second third next\n"),
+        ("blocks", ""),
+        ("makeblock", ""),
+        ("trace", ""),
+        ("replay", "entry answer value\n"),
+    ] {
+        let folder = fs::File::open(env!("CARGO_MANIFEST_DIR")).expect("a folder");
+        let output = Command::new(SECOND)
+            .args(["answer", kind])
+            .stdin(folder)
+            .output()
+            .expect("the program ends");
+        let listing = String::from_utf8(output.stdout).expect("text");
+        assert_eq!(listing, format!("{}failed read 21\n", told));
+        assert_eq!(output.status.code(), Some(1));
+        let words = String::from_utf8(output.stderr).expect("text");
+        assert!(words.starts_with("second: standard input: "), "{}", words);
+    }
+}
+
+#[test]
+fn listings_that_a_failed_read_cuts_are_compared() {
+    for kind in ["logs", "entries", "blocks", "makeblock", "trace", "replay"] {
+        let failures = ["failures", "--seed", "3", "--", kind];
+        let (code, words) = compare(&[&failures[..], &[SECOND, "answer", kind]].concat());
+        assert_eq!(code, Some(0), "{}", words);
+        assert!(
+            words.starts_with("seed 3\ninputs that fail agree: "),
+            "{}",
+            words
+        );
+        // Behind a pipe the failure is an end.
+        let script = format!("cat 2>/dev/null | '{}' answer {}", SECOND, kind);
+        let (code, words) = compare(&[&failures[..], &["sh", "-c", &script]].concat());
+        assert_eq!(code, Some(1), "{}", words);
+        assert!(words.contains("MISMATCH in "), "{}", words);
+        assert!(words.contains("failed read 11"), "{}", words);
+        let (code, words) = compare(&[&failures[..], &["/no/such/program"]].concat());
+        assert_eq!(code, Some(1), "{}", words);
+        assert!(words.contains("cannot be started"), "{}", words);
+    }
+}
+
+#[test]
 fn a_night_is_replayed() {
     let night = second(&["night", "3000", "5"], b"");
     assert_eq!(night.status.code(), Some(0));
@@ -193,7 +244,7 @@ fn without_a_folder_for_files_it_fails() {
 
 #[test]
 fn bad_use_is_told() {
-    let bad: [&[&str]; 18] = [
+    let bad: [&[&str]; 23] = [
         &[],
         &["compare"],
         &["answer", "notes"],
@@ -209,6 +260,11 @@ fn bad_use_is_told() {
         &["compare", "trace", "--cases", "x", "--", "cat"],
         &["replay", "more"],
         &["compare", "replay", "--"],
+        &["compare", "failures"],
+        &["compare", "failures", "--"],
+        &["compare", "failures", "--", "notes", "cat"],
+        &["compare", "failures", "--", "replay"],
+        &["compare", "failures", "--cases", "5", "--", "replay", "cat"],
         &["night", "5"],
         &["night", "five", "1"],
         &["night", "5", "1", "more"],

@@ -1,0 +1,4 @@
+//! Events to write, for `makeblock`.
+
+pub mod fixed;
+pub mod random;
