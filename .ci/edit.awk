@@ -1,8 +1,10 @@
-# One program of a list of wrong programs: awk -v crate=FOLDER [-v part=control] [-v into=FOLDER] [-v shape=1] -f edit.awk PROGRAM
-# makes its replacements on the files of that crate, or those of its control, whose lines stand two blanks further in. It prints each text that does not
-# stand once in its file. Into a folder it writes the files as they then are; with shape it prints instead the lines whose shape is then another, by it.
+# One program of a list of wrong programs: awk -v crate=FOLDER [-v part=control] [-v into=FOLDER] [-v shape=1] -f
+# edit.awk PROGRAM makes its replacements on the files of that crate, or those of its control, whose lines stand two
+# blanks further in. It prints each text that does not stand once in its file. Into a folder it writes the files as
+# they then are; with shape it prints instead the lines whose shape is then another, by it.
 
-# The shape of a line of code: its operators, brackets and keywords, with one letter for each name, number or constant, whichever it is.
+# The shape of a line of code: its operators, brackets and keywords, with one letter for each name, number or
+# constant, whichever it is.
 function shape_of(line,    out, before, word) {
     if (line ~ /^(ghost )?use /) return "a name brought in"
     sub(/\/\/.*/, "", line)
@@ -21,12 +23,14 @@ function shape_of(line,    out, before, word) {
     }
     gsub(/[ \t]/, "", line)
     out = out line
-    # a constant of an enum is a constant, with its value or without, and so is an array of one; `name: value` is the field `name`
+    # a constant of an enum is a constant, with its value or without, and so is an array of one; `name: value` is the
+    # field `name`
     while (gsub(/C\(o\)|\(Co\)/, "o", out) || gsub(/C/, "o", out) || gsub(/o:o|\[o;o\]/, "o", out)) continue
     return out
 }
 
-# Whether a comparison of one line stands in another the other way round, which is another shape, though the operator is the same.
+# Whether a comparison of one line stands in another the other way round, which is another shape, though the operator
+# is the same.
 function is_turned(was, is,    pair) {
     gsub(/[^A-Za-z0-9_.=!<>]+/, " ", is)
     while (match(was, /[A-Za-z0-9_.]+ (==|!=|<=|>=|<|>) [A-Za-z0-9_.]+/)) {

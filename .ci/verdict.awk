@@ -1,5 +1,6 @@
-# What a check said: awk -f verdict.awk LOG, which prints 'proved', or where the check failed first: the function (or the file of laws) and the need in
-# it; or 'no refusal: ' and why this is none: a message of scope, syntax or type says nothing of what a program does.
+# What a check said: awk -f verdict.awk LOG, which prints 'proved', or where the check failed first: the function (or
+# the file of laws) and the need in it; or 'no refusal: ' and why this is none: a message of scope, syntax or type
+# says nothing of what a program does.
 
 # The character at a column of a line of a file, counted in characters and not in bytes.
 function letter(file, row, column,    line, i, n, c) {
@@ -29,7 +30,8 @@ function letter(file, row, column,    line, i, n, c) {
     gsub(/\//, "::", place)
     need = message
     if (!sub(/^`/, "", need) || !sub(/`:.*/, "", need)) need = ""
-    # a function that is lent a record is walked whole: what is left of its promise are the p and the q at the end of its proof
+    # a function that is lent a record is walked whole: what is left of its promise are the p and the q at the end of
+    # its proof
     if (need ~ /-spec$/) {
         need = letter(file, at[2], at[3])
         if (need !~ /^[pq]$/) fault = "the proof's form does not fit"

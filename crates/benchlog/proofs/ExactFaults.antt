@@ -1,5 +1,6 @@
--- Each fault of an argument and of an entry, 30 to 34, is given exactly when its line of document 01's table holds, "left to right, the first fault found",
--- and there is exactly one: both ways, one `then` after the other. Assumes nothing.
+-- Each fault of an argument and of an entry, 30 to 34, is given exactly when its line of document 01's table holds,
+-- "left to right, the first fault found", and there is exactly one: both ways, one `then` after the other. Assumes
+-- nothing.
 use Prim.Native.Nat.{ℕ, zero, suc, _-_, _^_, _≤_, _<_}
 use mathlib.Core.Path.{_≡_, refl, subst, _∙_}
 use mathlib.Core.Bool.{Bool, true, false, cond, _||_, true≢false}

@@ -1,5 +1,5 @@
--- Each fault of a number, 30, 31 and 32, is given exactly when its line of document 01's table holds: both ways, carried by the tests of the definitions.
--- Assumes nothing.
+-- Each fault of a number, 30, 31 and 32, is given exactly when its line of document 01's table holds: both ways,
+-- carried by the tests of the definitions. Assumes nothing.
 use Prim.Native.Nat.{ℕ, zero, suc, _+_, _-_, _*_, _^_, _≤_, _<_}
 use mathlib.Core.Path.{_≡_, refl, sym, _∙_}
 use mathlib.Core.Bool.{Bool, true, false, cond}

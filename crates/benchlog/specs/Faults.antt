@@ -3,8 +3,8 @@ use Prim.Native.Nat.{ℕ}
 use Rattle.benchlog.specs.declared.Fault.{Fault}
 use Rattle.benchlog.specs.declared.Fault.the-variants.{Ends, NotShortest, TooLarge, NoSuchKind, OutOfRange}
 
--- 30: log ends inside an entry; 31: a number not in its shortest form; 32: a number above 2^32 - 1; 33: entry kind above 7; 34: argument
--- outside its range
+-- 30: log ends inside an entry; 31: a number not in its shortest form; 32: a number above 2^32 - 1; 33: entry kind
+-- above 7; 34: argument outside its range
 abbrev pub faultNumber : Fault → ℕ
 faultNumber Ends = 30
 faultNumber NotShortest = 31

@@ -1,6 +1,7 @@
--- The lines of document 01's table "Numbers that come back" that the log reader gives, 30 to 34, each with what it is "Given exactly when", and
--- "Log: left to right, the first fault found". They are written from the paper's sentences and not from the reader's definitions, of which they use
--- only the number at a place; proofs/ExactNumerals.antt and ExactFaults.antt show that the reader gives exactly these. Assumes nothing.
+-- The lines of document 01's table "Numbers that come back" that the log reader gives, 30 to 34, each with what it is
+-- "Given exactly when", and "Log: left to right, the first fault found". They are written from the paper's sentences
+-- and not from the reader's definitions, of which they use only the number at a place; proofs/ExactNumerals.antt and
+-- ExactFaults.antt show that the reader gives exactly these. Assumes nothing.
 use Prim.Native.Nat.{ℕ, _+_, _^_, _≤_, _<_}
 use mathlib.Core.Path.{_≡_}
 use mathlib.Core.Bool.{Bool, true, false, cond, _||_}
@@ -35,8 +36,8 @@ pub data Arguments : Type 0 where
 abbrev pub offsetAndWidth : (ℕ → Arguments) → Arguments
 offsetAndWidth after = argument (λ offset. ltb offset 65536) (λ offset. argument (λ width. eqb width 16 || eqb width 32) after)
 
--- "Kinds: 0 pulse (channel to 31, how many); 1 veto line (0 or 1); 2 TEST; 3 CLEAR; 4 TRIGGER; 5 read (offset below 65,536, width 16 or 32); 6 write
--- (offset, width, data that fits it); 7 MAN CLR."
+-- "Kinds: 0 pulse (channel to 31, how many); 1 veto line (0 or 1); 2 TEST; 3 CLEAR; 4 TRIGGER; 5 read (offset below
+-- 65,536, width 16 or 32); 6 write (offset, width, data that fits it); 7 MAN CLR."
 unfoldable pub argumentsOf : ℕ → Arguments
 argumentsOf kind =
     cond (eqb kind 0) (argument (λ channel. leb channel 31) (λ channel. argument (λ n. true) (λ n. nothingMore)))
@@ -45,8 +46,8 @@ argumentsOf kind =
     (cond (eqb kind 6) (offsetAndWidth (λ width. argument (λ d. ltb d (2 ^ width)) (λ d. nothingMore)))
     nothingMore)))
 
--- a fault in the arguments that stand from `at` on: the number of the first is at fault; 34: "argument outside its range"; or the first is right, and
--- the fault is in what follows it
+-- a fault in the arguments that stand from `at` on: the number of the first is at fault; 34: "argument outside its
+-- range"; or the first is right, and the fault is in what follows it
 pub data ArgumentFault (log : List ℕ) : ℕ → Arguments → Fault → Type 0 where
   inNumber : {at : ℕ} {inRange : ℕ → Bool} {after : ℕ → Arguments} {fault : Fault}
       → NumberFault log at fault → ArgumentFault log at (argument inRange after) fault

@@ -25,7 +25,8 @@ wholeWords bytes = cond (ltb bytes 132) (bytes / 4) 33
 unfoldable pub wordsIn : List ℕ → List ℕ
 wordsIn bytes = wordsFrom (wholeWords (length bytes)) bytes 0
 
--- "the word at which it begins ..; what the block reader answers ..; the event's length in words; its GEO, source and trigger number"
+-- "the word at which it begins ..; what the block reader answers ..; the event's length in words; its GEO, source and
+-- trigger number"
 abbrev pub firstOf : ℕ → Reply → Event → List ℕ
 firstOf place reply event = place ∷ reply .number ∷ reply .value ∷ event .geo ∷ event .source ∷ event .trigger ∷ []
 

@@ -1,5 +1,5 @@
--- Which number an access gets by a table: 1, 2, 3, each exactly when its line of document 01 holds and no earlier one does. What holds of each row and
--- of every refusal holds of what is looked up. Assumes nothing.
+-- Which number an access gets by a table: 1, 2, 3, each exactly when its line of document 01 holds and no earlier one
+-- does. What holds of each row and of every refusal holds of what is looked up. Assumes nothing.
 use Prim.Native.Nat.{ℕ, suc, _-_, _/_, _%_}
 use mathlib.Core.Path.{_≡_, refl, sym}
 use mathlib.Core.Bool.{Bool, true, false, cond, _&&_, false≢true}
@@ -44,7 +44,8 @@ abbrev pub Covering : (ℕ → ℕ → Type 0) → ℕ → List Row → ℕ → 
 Covering Q at [] o = Unit {0}
 Covering Q at (r ∷ rs) o = (covers r o ≡ true → (place : ℕ) → Q at place) × Covering Q (suc at) rs o
 
--- what holds of the number of every refusal, and of the number of each row that has the offset, holds of the number by the table and what is looked up
+-- what holds of the number of every refusal, and of the number of each row that has the offset, holds of the number
+-- by the table and what is looked up
 looked-up : (P : ℕ → Register → Type 0) (at : ℕ) (rows : List Row) (a : Access) (given : ℕ → ℕ) → ((why : Answer) → isDone why ≡ false → P (numberOf why) (Refused why))
     → Covering (λ at place. P (given at) (At at place)) at rows (a .offset) → P (tableNumber at rows a given) (lookUp at rows a)
 unfolding lookUp

@@ -1,4 +1,5 @@
--- A place that an access reaches lies within its row: where every row of a table has at most n places, so has what is reached. Assumes nothing.
+-- A place that an access reaches lies within its row: where every row of a table has at most n places, so has what is
+-- reached. Assumes nothing.
 use Prim.Native.Nat.{ℕ, suc, _-_, _/_, _≤_, _<_}
 use mathlib.Core.Path.{_≡_, refl}
 use mathlib.Core.Bool.{Bool, true, false, cond, _&&_, false≢true}

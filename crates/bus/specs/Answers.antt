@@ -45,6 +45,7 @@ replyOf a = record { number = numberOf a; value = valueOf a }
 abbrev pub isDone : Answer → Bool
 isDone answer = eqb (numberOf answer) 0
 
--- of n pulses those that are admitted: "A pulse on an input is admitted if its call is not refused and the module is not inhibited"
+-- of n pulses those that are admitted: "A pulse on an input is admitted if its call is not refused and the module is
+-- not inhibited"
 abbrev pub admitted : Answer → Bool → ℕ → ℕ
 admitted answer inhibited n = cond (isDone answer && not inhibited) n 0

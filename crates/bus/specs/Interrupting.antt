@@ -1,4 +1,5 @@
--- The interrupter (document 01, "Registers of the V260 and V560"; sections 3.2, 4 and 5 of source documents 000 and 001). Assumes nothing.
+-- The interrupter (document 01, "Registers of the V260 and V560"; sections 3.2, 4 and 5 of source documents 000 and
+-- 001). Assumes nothing.
 use Prim.Native.Nat.{ℕ}
 use mathlib.Core.Bool.{Bool, true, false, cond, _&&_, not}
 use lib.Dec.{eqb, leb}
@@ -24,8 +25,9 @@ released i = record { enabled = i .enabled; requested = false; level = i .level;
 abbrev pub cleared : Interrupter → Interrupter
 cleared i = generating false (released i)
 
--- "A request is raised in the step in which a watched bit goes from 0 to 1, if the channel or section and generation are enabled", and, by
--- section 5.6 of each, if the level is different from 0. `rose`: a watched bit of an enabled channel or section did.
+-- "A request is raised in the step in which a watched bit goes from 0 to 1, if the channel or section and generation
+-- are enabled", and, by section 5.6 of each, if the level is different from 0. `rose`: a watched bit of an enabled
+-- channel or section did.
 abbrev pub requests : Bool → Interrupter → Bool
 requests rose i = rose && i .enabled && not (eqb (i .level) 0)
 

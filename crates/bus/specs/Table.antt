@@ -1,4 +1,5 @@
--- Document 01, "What stands on the bench": a module's table of registers and what an access reaches in it. Assumes nothing.
+-- Document 01, "What stands on the bench": a module's table of registers and what an access reaches in it. Assumes
+-- nothing.
 use Prim.Native.Nat.{ℕ, suc, _-_, _/_, _%_}
 use mathlib.Core.Bool.{Bool, true, false, cond, _&&_}
 use mathlib.Core.List.{List, [], _∷_}
@@ -46,8 +47,8 @@ abbrev pub byTable : {O : Type 0} → (Answer → O) → (ℕ → ℕ → O) →
 byTable refused performed (Refused why) = refused why
 byTable refused performed (At at place) = performed at place
 
--- which number an access gets, line by line of document 01.
--- 1: no row has the offset; 2: the row that has it does not take the width; 3: nor the direction; else what the row gives
+-- which number an access gets, line by line of document 01. 1: no row has the offset; 2: the row that has it does not
+-- take the width; 3: nor the direction; else what the row gives
 abbrev pub tableNumber : ℕ → List Row → Access → (ℕ → ℕ) → ℕ
 tableNumber at [] a given = 1
 tableNumber at (r ∷ rs) a given =

@@ -1,4 +1,5 @@
--- T6: every marked case of document 01 is right, by computation of the definitions that the contracts of the modules and of the log reader are equations with. Assumes nothing.
+-- T6: every marked case of document 01 is right, by computation of the definitions that the contracts of the modules
+-- and of the log reader are equations with. Assumes nothing.
 use mathlib.Core.Path.{_≡_, refl}
 use mathlib.Core.List.{[]}
 use lib.Count.{onesIn}

@@ -1,5 +1,6 @@
--- The marked cases of document 01, "Reckoned by hand", in its order: of each, its line there, the module, the values of its start (docs/FORMATS.md, `trace`), the steps with the number and
--- the value of each answer, and the pulses admitted. Assumes nothing.
+-- The marked cases of document 01, "Reckoned by hand", in its order: of each, its line there, the module, the values
+-- of its start (docs/FORMATS.md, `trace`), the steps with the number and the value of each answer, and the pulses
+-- admitted. Assumes nothing.
 use Prim.Native.Nat.{ℕ, _-_}
 use mathlib.Core.Bool.{true}
 use mathlib.Core.List.{List, [], _∷_, _++_}
@@ -77,7 +78,8 @@ takesTwo =
     case 6 V830 (830 ∷ 0 ∷ 66 ∷ [])
     (gives (Write 0x1108 16 0x21) 0 0 ∷ gives Trigger 0 0 ∷ gives Trigger 0 0 ∷ gives (Read 0x1134 16) 0 2 ∷ []) 0
 
--- "One word, enable 1, no header, AUTO RESET: 4 pulses, trigger, 3 pulses, trigger (9), 2 pulses. Event 4, live 5, admitted 9."
+-- "One word, enable 1, no header, AUTO RESET: 4 pulses, trigger, 3 pulses, trigger (9), 2 pulses. Event 4, live 5,
+-- admitted 9."
 abbrev pub oneWord : Case
 oneWord =
     case 7 V830 (830 ∷ 0 ∷ 1 ∷ [])

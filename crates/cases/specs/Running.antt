@@ -1,5 +1,5 @@
--- What a case of document 01's "Reckoned by hand" is, and when it is right: each step is given to the module, and the answer's number and value are those that
--- the case expects; at the end, so are the pulses admitted. Assumes nothing.
+-- What a case of document 01's "Reckoned by hand" is, and when it is right: each step is given to the module, and the
+-- answer's number and value are those that the case expects; at the end, so are the pulses admitted. Assumes nothing.
 use Prim.Native.Nat.{ℕ, suc, _+_, _%_, _^_}
 use mathlib.Core.Bool.{Bool, cond, _&&_}
 use mathlib.Core.List.{List, [], _∷_}
@@ -45,7 +45,8 @@ inhibits which.V260 h = inhibited (h .v260 .scales)
 inhibits which.V560 h = inhibited (h .v560 .scales)
 inhibits which.V830 h = h .v830 .veto
 
--- the pulses on an input that an entry brings; the TEST pulses, which are admitted too, are left out: no marked case has one
+-- the pulses on an input that an entry brings; the TEST pulses, which are admitted too, are left out: no marked case
+-- has one
 abbrev pub pulsesIn : Entry → ℕ
 pulsesIn (entry.Pulse channel n) = n
 pulsesIn (entry.Veto on) = 0
@@ -82,7 +83,8 @@ isExpected l reply = eqb (reply .number) (l .1) && eqb (reply .value) (l .2)
 abbrev pub turned : Bench → Memory → Step → Turned
 turned b memory step = record { reply = replied b memory step; bench = afterStep b memory step }
 
--- the number of the first step, from k on, whose answer is not the one expected, or the one after the last where the pulses admitted are not; 0 where all is right
+-- the number of the first step, from k on, whose answer is not the one expected, or the one after the last where the
+-- pulses admitted are not; 0 where all is right
 unfoldable pub wrongFrom : ℕ → ℕ → Bench → Memory → List Line → ℕ
 wrongFrom k pulses b memory [] = cond (eqb (b .pulses) pulses) 0 k
 wrongFrom k pulses b memory (l ∷ ls) =

@@ -217,7 +217,8 @@ fn takes_two() -> Case
     }
 }
 
-// One word, enable 1, no header, AUTO RESET: 4 pulses, trigger, 3 pulses, trigger (9), 2 pulses. Event 4, live 5, admitted 9.
+// One word, enable 1, no header, AUTO RESET: 4 pulses, trigger, 3 pulses, trigger (9), 2 pulses. Event 4, live 5,
+// admitted 9.
 fn one_word() -> Case
     ensures { λ r. ⌜ r ≡ oneWord ⌝ }
 {

@@ -1,6 +1,6 @@
--- The carry fact (T4's core), once for every width w and every number of parts: a chain of k parts of w bits, ticked n times, holds its value
--- plus n modulo 2 ^ (w * k). An induction on the parts, whose turn is one of two facts about plain numbers: with a carry (`rolled`) and without
--- one (`stepped`). Assumes nothing.
+-- The carry fact (T4's core), once for every width w and every number of parts: a chain of k parts of w bits, ticked
+-- n times, holds its value plus n modulo 2 ^ (w * k). An induction on the parts, whose turn is one of two facts about
+-- plain numbers: with a carry (`rolled`) and without one (`stepped`). Assumes nothing.
 use Prim.Native.Nat.{ℕ, zero, suc, _+_, _*_, _-_, _%_, _^_, _≤_, _<_}
 use mathlib.Core.Path.{_≡_, refl, sym, ap, _∙_}
 use mathlib.Core.Bool.{Bool, true, false, cond}

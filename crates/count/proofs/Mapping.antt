@@ -1,4 +1,5 @@
--- A list changed in its place, an element a turn: what is done, and what is left to do, give the whole. And an element of a list that is mapped. Assumes nothing.
+-- A list changed in its place, an element a turn: what is done, and what is left to do, give the whole. And an
+-- element of a list that is mapped. Assumes nothing.
 use Prim.Native.Nat.{ℕ, zero, suc, _+_, _≤_, _<_}
 use mathlib.Core.Path.{_≡_, refl, sym, _∙_}
 use mathlib.Core.List.{List, [], _∷_, _++_, map, append-nil}

@@ -1,5 +1,5 @@
--- A chain of counters of w bits, the lowest part first (document 01, "Counting": the joined channels of the V260, the joined sections of
--- the V560). Assumes nothing.
+-- A chain of counters of w bits, the lowest part first (document 01, "Counting": the joined channels of the V260, the
+-- joined sections of the V560). Assumes nothing.
 use Prim.Native.Nat.{ℕ, _+_, _*_, _^_, _<_}
 use mathlib.Core.Bool.{cond}
 use mathlib.Core.List.{List, [], _∷_}

@@ -1,4 +1,5 @@
--- Words counted up, as the lent words are at first: how many they are, each of them, and an array that is filled with a list. Assumes nothing.
+-- Words counted up, as the lent words are at first: how many they are, each of them, and an array that is filled with
+-- a list. Assumes nothing.
 use Prim.Native.Nat.{ℕ, zero, suc, _+_, _<_, _≤_}
 use mathlib.Core.Path.{_≡_, refl, sym, _∙_}
 use mathlib.Core.List.{List}

@@ -1,4 +1,5 @@
--- Laws of the enabled channels: how many they are, and the next of them, by the zeros below the mask's lowest one. Assumes nothing.
+-- Laws of the enabled channels: how many they are, and the next of them, by the zeros below the mask's lowest one.
+-- Assumes nothing.
 use mathlib.Core.Path.{_≡_, refl, ap, _∙_}
 use mathlib.Core.List.{List, [], _∷_}
 use Prim.Native.Nat.{ℕ, zero, suc, _+_, _-_, _*_, _/_, _%_, _^_, _≤_, _<_}
@@ -51,7 +52,8 @@ unfolding enabledFrom
 enabled-none zero k = refl
 enabled-none (suc d) k = enabled-none d (suc k)
 
--- channel k + t is the next one, where t zeros stand below the lowest one of the mask; those after it are the channels of the mask without that one
+-- channel k + t is the next one, where t zeros stand below the lowest one of the mask; those after it are the
+-- channels of the mask without that one
 abbrev pub NextIs : ℕ → ℕ → ℕ → ℕ → Type 0
 NextIs d k m t = (t < d) × (2 ^ t ≤ m) × (enabledFrom d k m ≡ (k + t) ∷ enabledFrom d k (m - 2 ^ t))
 

@@ -1,5 +1,6 @@
--- Each number of the block reader and of the block writer is given exactly when its line of document 01's table holds and no earlier one does, and none
--- exactly when no line holds: the chains of the definitions, link by link, beside the lines. Assumes nothing.
+-- Each number of the block reader and of the block writer is given exactly when its line of document 01's table holds
+-- and no earlier one does, and none exactly when no line holds: the chains of the definitions, link by link, beside
+-- the lines. Assumes nothing.
 use Prim.Native.Nat.{ℕ, suc, _+_, _/_, _%_, _^_, _≤_, _<_}
 use mathlib.Core.Path.{_≡_, refl, sym, ap, _∙_}
 use mathlib.Core.Bool.{Bool, true, false, cond, not, _&&_, _||_}

@@ -1,5 +1,5 @@
--- The data of an event and the counts in them, channel by channel as the mask is halved: what the definitions give over the list of the enabled
--- channels. Both round trips are inductions over these. Assumes nothing.
+-- The data of an event and the counts in them, channel by channel as the mask is halved: what the definitions give
+-- over the list of the enabled channels. Both round trips are inductions over these. Assumes nothing.
 use mathlib.Core.Path.{_≡_, refl, ap, ap₂, _∙_}
 use mathlib.Core.Bool.{Bool}
 use mathlib.Core.List.{List, [], _∷_, _++_}

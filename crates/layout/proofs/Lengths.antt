@@ -1,4 +1,5 @@
--- The event length as the code has it, when an event has words, and a quotient with a rest, which is below what was divided. Assumes nothing.
+-- The event length as the code has it, when an event has words, and a quotient with a rest, which is below what was
+-- divided. Assumes nothing.
 use mathlib.Core.Path.{_≡_, sym, ap}
 use mathlib.Core.Bool.{Bool, true, false, cond, not, _||_}
 use Prim.Native.Nat.{ℕ, zero, suc, _+_, _/_, _%_, _^_, _<_}

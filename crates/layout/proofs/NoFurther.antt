@@ -1,4 +1,5 @@
--- The reader looks at no word after the event: whatever stands behind as many words as an event has, the reading is the same. Assumes nothing.
+-- The reader looks at no word after the event: whatever stands behind as many words as an event has, the reading is
+-- the same. Assumes nothing.
 use mathlib.Core.Path.{_≡_, refl, sym}
 use mathlib.Core.Bool.{Bool, true, false}
 use mathlib.Core.List.{List, [], _∷_, _++_}

@@ -1,5 +1,6 @@
--- A written event reads back: where the writer does not refuse an event, the reader of the words that it leaves, whatever stands behind them, gives the
--- same answer, with the same length, and the same event: all its fields and counts. In both formats, with header and without, of any Channel Enable.
+-- A written event reads back: where the writer does not refuse an event, the reader of the words that it leaves,
+-- whatever stands behind them, gives the same answer, with the same length, and the same event: all its fields and
+-- counts. In both formats, with header and without, of any Channel Enable.
 --
 -- What the code's types say is said here: Channel Enable has 32 bits, and an event 32 counts. Assumes nothing.
 use mathlib.Core.Path.{_≡_, refl, sym, ap, ap₂, _∙_}

@@ -1,6 +1,7 @@
--- A read block, written again, gives its words: where the reader does not refuse words, the writer of the event that it gives, with the same settings and
--- enough lent words, gives the same answer, with the same length, and leaves the event's words, as they were read, in front of the lent words that stay. In both
--- formats, with header and without, of any Channel Enable.
+-- A read block, written again, gives its words: where the reader does not refuse words, the writer of the event that
+-- it gives, with the same settings and enough lent words, gives the same answer, with the same length, and leaves the
+-- event's words, as they were read, in front of the lent words that stay. In both formats, with header and without,
+-- of any Channel Enable.
 --
 -- What the code's types say is said here: Channel Enable and every word have 32 bits. Assumes nothing.
 use mathlib.Core.Path.{_≡_, refl, sym, ap, ap₂, _∙_}

@@ -8,8 +8,8 @@ use Rattle.layout.specs.declared.Event.{Event}
 use Rattle.layout.specs.declared.Settings.{Settings}
 use Rattle.layout.specs.Length.{enabledChannels}
 
--- "Header: bits 31-27 GEO, 26 one, 25-24 zero, 23-18 channel count, 17-16 trigger source .., 15-0 the Trigger Counter modulo 2^16";
--- of an event that can be written each field is within its bits (28)
+-- "Header: bits 31-27 GEO, 26 one, 25-24 zero, 23-18 channel count, 17-16 trigger source .., 15-0 the Trigger Counter
+-- modulo 2^16"; of an event that can be written each field is within its bits (28)
 abbrev pub headerOf : Settings → Event → ℕ
 headerOf st ev = ev .geo * 2 ^ 27 + 1 * 2 ^ 26 + onesIn 32 (st .enable) * 2 ^ 18 + ev .source * 2 ^ 16 + ev .trigger
 

@@ -38,7 +38,8 @@ headerLength st = cond (st .header) 1 0
 abbrev pub eventLength : Settings → ℕ
 eventLength st = onesIn 32 (st .enable) + headerLength st
 
--- "MEB Event Number is stored words divided by event length, rounded up, 0 if none"; 8, where "the event would have no words"
+-- "MEB Event Number is stored words divided by event length, rounded up, 0 if none"; 8, where "the event would have
+-- no words"
 abbrev pub roundedUp : ℕ → ℕ → ℕ
 roundedUp n d = n / d + cond (eqb (n % d) 0) 0 1
 

@@ -1,6 +1,7 @@
--- The lines of document 01's table "Numbers that come back" that the block reader and the block writer give, each with what it is "Given exactly
--- when", in document 01's order. They are written from the table's sentences, each complete by itself, and not from the chains of Reader and Writer;
--- proofs/ExactNumbers.antt shows that those give exactly these. Assumes nothing.
+-- The lines of document 01's table "Numbers that come back" that the block reader and the block writer give, each
+-- with what it is "Given exactly when", in document 01's order. They are written from the table's sentences, each
+-- complete by itself, and not from the chains of Reader and Writer; proofs/ExactNumbers.antt shows that those give
+-- exactly these. Assumes nothing.
 use Prim.Native.Nat.{ℕ, suc, _/_, _%_, _^_}
 use mathlib.Core.Path.{_≡_}
 use mathlib.Core.Bool.{Bool, true, false, cond, not, _&&_, _||_}
@@ -26,7 +27,8 @@ unfoldable pub firstNumber : List TableLine → ℕ
 firstNumber [] = 0
 firstNumber (l ∷ ls) = cond (l .holds) (l .number) (firstNumber ls)
 
--- "each number exactly when its line holds and no earlier one does": a line of this number holds, and no line before it does
+-- "each number exactly when its line holds and no earlier one does": a line of this number holds, and no line before
+-- it does
 pub data First : List TableLine → ℕ → Type 0 where
   here : {l : TableLine} {ls : List TableLine} {n : ℕ} → l .holds ≡ true → l .number ≡ n → First (l ∷ ls) n
   later : {l : TableLine} {ls : List TableLine} {n : ℕ} → l .holds ≡ false → First ls n → First (l ∷ ls) n
@@ -67,9 +69,9 @@ dataLines short ws place (channel ∷ channels) =
     ∷ given 24 (short && holdsAt ws place (λ datum. not (eqb (channelField datum) channel)))
     ∷ dataLines short ws (suc place) channels
 
--- "Block reader: 8, 20 for no words, then 21, 26, 22, 25, 20 for a short body, then data words": "the event would have no words"; no words; "header
--- without bit 26"; "header bits 25 and 24 not both 0"; "header count above 32"; "header count is not the number of enabled channels"; "the words end
--- before the event does"
+-- "Block reader: 8, 20 for no words, then 21, 26, 22, 25, 20 for a short body, then data words": "the event would
+-- have no words"; no words; "header without bit 26"; "header bits 25 and 24 not both 0"; "header count above 32";
+-- "header count is not the number of enabled channels"; "the words end before the event does"
 unfoldable pub readLines : Settings → List ℕ → List TableLine
 readLines st ws =
     given 8 (eqb (eventLength st) 0)
@@ -87,8 +89,8 @@ unfoldable pub someCount : (ℕ → ℕ → Bool) → ℕ → List ℕ → Bool
 someCount says k [] = false
 someCount says k (c ∷ cs) = says k c || someCount says (suc k) cs
 
--- 28: "GEO above 31, source above 3, trigger number above 65,535, short count of 2^26 or more, a disabled channel's count not 0, or without header a
--- header field not 0"
+-- 28: "GEO above 31, source above 3, trigger number above 65,535, short count of 2^26 or more, a disabled channel's
+-- count not 0, or without header a header field not 0"
 unfoldable pub wrongEvent : Settings → Event → Bool
 wrongEvent st ev =
     (ltb 31 (ev .geo) || ltb 3 (ev .source) || ltb 65535 (ev .trigger))

@@ -1,5 +1,5 @@
--- Document 01: the block reader. "Block reader: 8, 20 for no words, then 21, 26, 22, 25, 20 for a short body, then data words from the first,
--- 23 before 24." Assumes nothing.
+-- Document 01: the block reader. "Block reader: 8, 20 for no words, then 21, 26, 22, 25, 20 for a short body, then
+-- data words from the first, 23 before 24." Assumes nothing.
 use Prim.Native.Nat.{ℕ, _/_, _%_, _^_}
 use mathlib.Core.Bool.{Bool, cond}
 use mathlib.Core.List.{List, [], _∷_}
@@ -14,8 +14,8 @@ use Rattle.layout.specs.declared.Settings.{Settings}
 use Rattle.layout.specs.Length.{eventLength, headerLength, enabledChannels}
 use Rattle.layout.specs.Numbers.{givesLength, unless, noRefusal}
 
--- 21: "header without bit 26"; 26: "header bits 25 and 24 not both 0"; 22: "header count above 32"; 25: "header count is not the number of
--- enabled channels"; then `after`
+-- 21: "header without bit 26"; 26: "header bits 25 and 24 not both 0"; 22: "header count above 32"; 25: "header count
+-- is not the number of enabled channels"; then `after`
 abbrev pub headerAnswer : Settings → ℕ → Answer → Answer
 headerAnswer st header after =
     let count : ℕ = header / 2 ^ 18 % 64 in
@@ -25,7 +25,8 @@ headerAnswer st header after =
     (unless (eqb count (onesIn 32 (st .enable))) AnotherCount
     after)))
 
--- 23: "short-format datum with bit 26 set"; 24: "short-format datum with a channel that is not the next enabled one"; then `after`
+-- 23: "short-format datum with bit 26 set"; 24: "short-format datum with a channel that is not the next enabled one";
+-- then `after`
 abbrev pub datumAnswer : ℕ → ℕ → Answer → Answer
 datumAnswer channel datum after =
     unless (eqb (datum / 2 ^ 26 % 2) 0) DatumWithBit26

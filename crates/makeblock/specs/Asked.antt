@@ -1,5 +1,5 @@
--- What a head asks for; docs/FORMATS.md: "a head of 39 numbers, `header` (0 or 1), `short` (0 or 1), `enable`, `room` (0 to 64), `geo`, `source`,
--- `trigger`, and the counts `c0` to `c31`". Assumes nothing.
+-- What a head asks for; docs/FORMATS.md: "a head of 39 numbers, `header` (0 or 1), `short` (0 or 1), `enable`, `room`
+-- (0 to 64), `geo`, `source`, `trigger`, and the counts `c0` to `c31`". Assumes nothing.
 use Prim.Native.Nat.{ℕ, _-_, _^_}
 use mathlib.Core.List.{List, _∷_}
 use lib.ListN.{getD, take, drop, replicate}

@@ -16,8 +16,8 @@ use Rattle.modules.specs.declared.Held.{Held}
 use Rattle.modules.specs.declared.Which.{Which}
 use Rattle.modules.specs.declared.Which.the-variants as which
 
--- "A pulse entry gives that many pulses to that channel, a veto entry sets the front veto line, kinds 2, 3 and 7 are TEST, the CLEAR line and
--- MAN CLR, kinds 5 and 6 are accesses."; what it asks of a V830 is call830Of
+-- "A pulse entry gives that many pulses to that channel, a veto entry sets the front veto line, kinds 2, 3 and 7 are
+-- TEST, the CLEAR line and MAN CLR, kinds 5 and 6 are accesses."; what it asks of a V830 is call830Of
 abbrev pub callOf : Entry → Call
 callOf (entry.Pulse channel n) = call.Pulses channel n
 callOf (entry.Veto on) = call.VetoLine on

@@ -31,7 +31,8 @@ switchesOf values =
       jp17 = eqb (getD values 3 0 / 2 % 2) 1;
     }
 
--- "The counts `c0` to `c15` (V830: `c31`), any numbers, are then put into the record that the start gave, whatever it answered"
+-- "The counts `c0` to `c15` (V830: `c31`), any numbers, are then put into the record that the start gave, whatever it
+-- answered"
 abbrev pub counted260 : List ℕ → o260.Outcome → o260.Outcome
 counted260 counts o =
     record { answer = o .answer; state = v260.scaled (counting counts (o .state .scales)) (o .state); interrupter = o .interrupter }
@@ -55,7 +56,8 @@ resting =
       interrupter = powerOn 0;
     }
 
--- "The module is started with the switches of the head (a V830 with `geo` and the lent words)"; the other two stand still
+-- "The module is started with the switches of the head (a V830 with `geo` and the lent words)"; the other two stand
+-- still
 abbrev pub begun260 : List ℕ → Held
 begun260 values = after260 resting (counted260 (take 16 (drop 5 values)) (v260.startOf (switchesOf values) (getD values 4 0)))
 

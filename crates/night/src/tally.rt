@@ -84,7 +84,8 @@ fn put_word(out: &mut [u8], at: usize, word: u64)
     out[at + 7] = (word % 256) as u8;
 }
 
-// Puts the line of the entry that is counted, where 63 bytes are free, and answers the place after it; elsewhere it puts nothing.
+// Puts the line of the entry that is counted, where 63 bytes are free, and answers the place after it; elsewhere it
+// puts nothing.
 pub(crate) fn put_entry(out: &mut [u8], at: usize, t: Tally, answer: u32, value: u32) -> usize
     requires { ⌜ t ≡ tallyOf (t .number) ⌝ }
     ensures { λ r. ⌜ (r ≡ afterIn 63 (now (out .entry)) at (line (t .number ∷ answer ∷ value ∷ []))) × (now (out .exit) ≡ putIn 63 (now (out .entry)) at (line (t .number ∷ answer ∷ value ∷ []))) ⌝ }
@@ -95,7 +96,8 @@ pub(crate) fn put_entry(out: &mut [u8], at: usize, t: Tally, answer: u32, value:
     put_longer(out, at, t, answer, value)
 }
 
-// The same of a number with three digits or more: eight bytes at once, of which what follows the number covers the rest.
+// The same of a number with three digits or more: eight bytes at once, of which what follows the number covers the
+// rest.
 fn put_longer(out: &mut [u8], at: usize, t: Tally, answer: u32, value: u32) -> usize
     requires { ⌜ (t ≡ tallyOf (t .number)) × (3 ≤ t .figures) ⌝ }
     ensures { λ r. ⌜ (r ≡ afterIn 63 (now (out .entry)) at (line (t .number ∷ answer ∷ value ∷ []))) × (now (out .exit) ≡ putIn 63 (now (out .entry)) at (line (t .number ∷ answer ∷ value ∷ []))) ⌝ }

@@ -1,4 +1,5 @@
--- What a run of channels has counted: m ticks of the chain that it is, and so, by the carry law, m more modulo 2 ^ (w * channels). Assumes nothing.
+-- What a run of channels has counted: m ticks of the chain that it is, and so, by the carry law, m more modulo 2 ^ (w
+-- * channels). Assumes nothing.
 use Prim.Native.Nat.{ℕ, zero, suc, _+_, _*_, _%_, _^_}
 use mathlib.Core.Path.{_≡_, refl, sym, ap, _∙_}
 use mathlib.Core.List.{List}

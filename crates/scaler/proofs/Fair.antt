@@ -1,5 +1,6 @@
--- A module of sixteen scales, seen from inside, and a scale of it: every call that does not clear ticks the scale as often as pulses are admitted to its
--- first channel. Said once for the V260 and the V560, which each bring their own way of joining. Assumes nothing.
+-- A module of sixteen scales, seen from inside, and a scale of it: every call that does not clear ticks the scale as
+-- often as pulses are admitted to its first channel. Said once for the V260 and the V560, which each bring their own
+-- way of joining. Assumes nothing.
 use Prim.Native.Nat.{ℕ, zero, suc, _*_, _%_, _^_, _<_}
 use mathlib.Core.Path.{_≡_, refl, sym, ap, subst, _∙_}
 use mathlib.Core.Bool.{Bool, true, false, cond, _||_, not, false≢true}
@@ -34,7 +35,8 @@ use Rattle.bus.proofs.Choices.{cond-same, and-false, by-test}
 use Rattle.scaler.proofs.Counted.{Counted, counted-none, counted-then, counted-held, zero-parts, zero-held}
 use Rattle.scaler.proofs.Runs.{or-right}
 
--- what is inside a module: the switches J that join its channels, one pulse on an input, and what its calls are made of
+-- what is inside a module: the switches J that join its channels, one pulse on an input, and what its calls are made
+-- of
 pub record Inside {S O : Type 0} (m : Module S O) (J : Type 0) : Type 0 where
   pub joins : S → J
   pub pulse : ℕ → O → O
@@ -173,7 +175,8 @@ module _ {S O J : Type 0} {m : Module S O} (inside : Inside m J) where
               let t = often (λ l. l) (λ a l. c .other-stays (m .state a) x (l .2) h (eqb-false x f r) (or-right (inhibited (m .scales (m .state a))) (inside .ignores (m .state a) x) (l .1))) n o (d, rw (p, q), g) in
               (t .0 .2, rw cond-same (record { size = grown (t .0 .2); ticks = t .1 ∙ iterate-same n (seen o) }))
 
-    -- what a module must show of its own calls: the front line leaves switches and counts, what each row does, and TEST is fair
+    -- what a module must show of its own calls: the front line leaves switches and counts, what each row does, and
+    -- TEST is fair
     pub record Own : Type 0 where
       pub fit-stays : (s t : S) → inside .joins t ≡ inside .joins s → scaleCounts m t ≡ scaleCounts m s → Fit s → Fit t
       pub line-stays : (s : S) (i : Interrupter) (on : Bool) → Quiet s (inside .ordered (order.VetoLine on) s i)

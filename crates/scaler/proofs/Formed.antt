@@ -1,5 +1,5 @@
--- Well formed or not, a module stays so, for both modules (document 01, "Numbers that come back", 12): no call makes of a well-formed state and interrupter
--- ones that get 12, and ones that get 12 get it from then on. Assumes nothing.
+-- Well formed or not, a module stays so, for both modules (document 01, "Numbers that come back", 12): no call makes
+-- of a well-formed state and interrupter ones that get 12, and ones that get 12 get it from then on. Assumes nothing.
 use Prim.Native.Nat.{ℕ, zero, suc}
 use mathlib.Core.Path.{_≡_, refl, ap, _∙_}
 use mathlib.Core.Bool.{true, false, _||_}
@@ -33,7 +33,8 @@ module _ {S O J : Type 0} {m : Module S O} (inside : Inside m J) where
   abbrev pub Reaching : S → Interrupter → Access → Register → Type 0
   Reaching s i a to = Well (byTable (λ why. inside .refused why s i) (λ at place. inside .performed at place s i a) to)
 
-  -- what a module must show of its own calls: a pulse that is admitted, TEST, lines and the button, and each row of the table
+  -- what a module must show of its own calls: a pulse that is admitted, TEST, lines and the button, and each row of
+  -- the table
   pub record Forming : Type 0 where
     pub clocks-well : (o : O) (x : ℕ) → Well o → Well (inside .counted (inside .clocks (m .state o) x) o)
     pub tested-well : (s : S) (i : Interrupter) → m .formed s i ≡ true → Well (inside .tested s i)

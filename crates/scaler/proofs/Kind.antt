@@ -1,4 +1,5 @@
--- The types of a module that is lent the interrupter, as the walks of `Thin.antt` and `Lends.antt` see them, so that each stands once for the V260 and the V560.
+-- The types of a module that is lent the interrupter, as the walks of `Thin.antt` and `Lends.antt` see them, so that
+-- each stands once for the V260 and the V560.
 --     Kind             its state; what a call by value gives: answer, state, interrupter; what a call gives that was lent the interrupter: answer, state
 --     outcome, lent    the two as declared types. A crate's own are these, by computation
 -- Assumes nothing.
@@ -33,8 +34,8 @@ lent-fields-of S = A.the-field ∷ field S ∷ []
 abbrev pub lent-data-of : (S : Declared) → Answer → S .D → Denots (rows (lent-fields-of S))
 lent-data-of S a s = (A.the-field .into a, (S .to s, tt))
 
--- `outcome-one`, `lent-one`: a value is its data. `make-is`: one is made of its parts. `lent-is`, `whole`: what is handed back beside the interrupter is the answer and the state, and with the
--- interrupter it is the outcome
+-- `outcome-one`, `lent-one`: a value is its data. `make-is`: one is made of its parts. `lent-is`, `whole`: what is
+-- handed back beside the interrupter is the answer and the state, and with the interrupter it is the outcome
 pub record Kind : Type 2 where
   pub state : Declared
   pub laws : LL.Laws state

@@ -1,8 +1,10 @@
--- A call by value that makes an interrupter of its own and lends it: whoever calls it needs no walk. One walk for the V260 and the V560, over the module's types and the one parameter that follows.
+-- A call by value that makes an interrupter of its own and lends it: whoever calls it needs no walk. One walk for the
+-- V260 and the V560, over the module's types and the one parameter that follows.
 --     fn f(s: S, i: Interrupter, p: P) -> Outcome { let mut j = i; let l = in_place::g(s, &mut j, p); Outcome { answer: l.answer, state: l.state, interrupter: j } }
 --     fnOf P g         the MIR of such a function, whose call has the key g
 --     lends            it meets a contract that says what the call by value gives
--- Assumes `Given`, and that the call meets a contract whose `ensures` says, of what G gives, what is returned and what stands behind the reference at exit.
+-- Assumes `Given`, and that the call meets a contract whose `ensures` says, of what G gives, what is returned and
+-- what stands behind the reference at exit.
 use prog.Model.{Model}
 use prog.Routine.{Routine, Env}
 use contract.Running.{GhostRules, Running, givenOf, tables, tablesOf}
@@ -163,11 +165,13 @@ module _ (K : Kind) (P : Par) where
             qed W (‵ ftrue ∷ ‵ (owns (S ∷ I.the-row ∷ P .row ∷ []) a at) ∷ []) ∵ enter ! C Λ (fnOf callee) (sv s ∷ hv h ∷ P .val p ∷ []) _ $
             alloc1 ! (λ l₀. alloc1 ! (λ l₁. alloc1 ! (λ l₂. alloc1 ! (λ l₃. alloc1 ! (λ l₄. alloc1 ! (λ l₅. alloc1 ! (λ l₆. alloc1 ! (λ l₇. alloc0 ! $ params1 ! $
             pass1 ! (init ! 12 refl (given K .typed 𝓤 H A W s (are .0))) $ pass1 ! (init ! 10 refl (LL.lawful I.the-type I′.the-laws 𝓤 H A W .typed h _ (are .1 .0) .0)) $ pass1 ! (init ! 8 refl (P .typed 𝓤 H A W p (are .1 .1 .0))) $ pass0 ! $
-            -- [_7; …; the reference; …; l; …; j; …; p; …; i; …; s; …; room for the result; …; true; what the parameters own]
+            -- [_7; …; the reference; …; l; …; j; …; p; …; i; …; s; …; room for the result; …; true; what the
+            -- parameters own]
             assigns ! (of-opd ! (load ! (from ! (stop !)) (look ! 10 refl))) (from ! (stop !)) (init ! 6 refl (LL.lawful I.the-type I′.the-laws 𝓤 H A W .typed h _ (are .1 .0) .0)) $
             assigns ! (addr ! (from ! (stop !))) (from ! (stop !)) (init ! 2 refl (tt, tt)) $
             move ! (6 ∷ []) $ lend ! tt l₄ h (are .1 .0) (λ ν γ.
-            -- [the token; the reference; the lender's part; _7; …; the reference's local; …; l; …; what frees j; p; …; i; …; s; …; room for the result; …; true; what the parameters own]
+            -- [the token; the reference; the lender's part; _7; …; the reference's local; …; l; …; what frees j; p;
+            -- …; i; …; s; …; room for the result; …; true; what the parameters own]
             move ! (19 ∷ []) $ fsplit ! $ move ! (1 ∷ []) $ fsplit ! $ drop ! $ move ! (1 ∷ 3 ∷ 0 ∷ []) $ fjoin3 ! $ move ! (1 ∷ 0 ∷ []) $ use2 W (raw (Loan .pre (to-loan ν l₄ γ))) (goes-loan ν l₄ γ) $
             calls-at ! fm Loan known (to-loan ν l₄ γ) (and-then ! (load ! (from ! (stop !)) (look ! 13 refl)) (and-then ! (load ! (from ! (stop !)) (look ! 4 refl)) (and-then ! (load ! (from ! (stop !)) (look ! 9 refl)) (no-more !)))) (λ w.
             use1 W (later (some (λ (r : K .Lent). ((‵ (flft (ν ∷ []) fullShare) ⊛ ‵ ftrue) ⊛ ‵ (L .own r (w ∷ []))) ⊛ raw (ensured 𝓤 H A byLoan c (κs ν) (y ν l₄ γ) (ghost (κs ν) (y ν l₄ γ)) r)))) (id⊢ 𝓤 _) $ await ! tt $ pick ! (λ r.

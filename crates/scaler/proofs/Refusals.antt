@@ -1,5 +1,6 @@
--- T1, demand 1, for both modules: a call that is refused leaves module and interrupter as they were, with the value 0; and each number is given exactly
--- when its line of document 01 holds and no earlier one of the order 12, 1, 2, 3, 11, 4 does. Assumes nothing.
+-- T1, demand 1, for both modules: a call that is refused leaves module and interrupter as they were, with the value
+-- 0; and each number is given exactly when its line of document 01 holds and no earlier one of the order 12, 1, 2, 3,
+-- 11, 4 does. Assumes nothing.
 use Prim.Native.Nat.{ℕ}
 use mathlib.Core.Path.{_≡_, sym, ap, _∙_}
 use mathlib.Core.Bool.{Bool, false, cond, _||_, false≢true}

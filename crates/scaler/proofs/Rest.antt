@@ -1,4 +1,5 @@
--- The parameters of a function that follow its reference, as a list: their types, their machine values, their locals, and what is had of them at exit.
+-- The parameters of a function that follow its reference, as a list: their types, their machine values, their locals,
+-- and what is had of them at exit.
 --     Par              a parameter's type with its laws: `num w`, `flag`, `struct` of a declared struct's, `enum` of a declared enum's
 --     alloc-rest, pass-rest, free-rest, rest-opds      the steps of `Types/Run.antt` for all of them at once. Their locals are one entry of the context: `rooms` before they are passed, `cells` after
 --     dropped, go-rest, lasts-rest, fits-rest, has-rest    nothing is had of them at exit, and nothing is said of them

@@ -1,5 +1,6 @@
--- A run of channels, each clocked by the carry of the one before it, counts as one chain: the module's way of clocking (`clocked`) is, seen from a run,
--- the tick of a chain (`tickChain`), and of the other channels it changes none. Once for every width and every way of joining. Assumes nothing.
+-- A run of channels, each clocked by the carry of the one before it, counts as one chain: the module's way of
+-- clocking (`clocked`) is, seen from a run, the tick of a chain (`tickChain`), and of the other channels it changes
+-- none. Once for every width and every way of joining. Assumes nothing.
 use Prim.Native.Nat.{ℕ, zero, suc, _<_}
 use mathlib.Core.Path.{_≡_, refl, sym, ap, ap₂, _∙_}
 use mathlib.Core.Bool.{Bool, true, false, cond, _&&_, _||_, false≢true}
@@ -23,7 +24,8 @@ abbrev pub among : ℕ → List ℕ → Bool
 among k [] = false
 among k (c ∷ cs) = eqb k c || among k cs
 
--- n + 1 channels from k on are a run: each but the last is joined to the one after it, no channel comes twice, and each is one of m
+-- n + 1 channels from k on are a run: each but the last is joined to the one after it, no channel comes twice, and
+-- each is one of m
 unfoldable pub Run : (ℕ → Bool) → (ℕ → ℕ) → ℕ → ℕ → ℕ → Type 0
 Run joins after m zero k = (k < m) × (joins k ≡ false)
 Run joins after m (suc n) k = (k < m) × (joins k ≡ true) × (among k (path after (suc n) (after k)) ≡ false) × Run joins after m n (after k)

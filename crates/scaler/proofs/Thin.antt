@@ -1,9 +1,11 @@
--- The calls that are lent the interrupter, of a V260 and a V560: each is lent a `&mut Interrupter`, hands the record behind it to the call by value, stores the record that comes back in its place, and returns the rest.
--- One walk for all of them, over the module's types and the list of the parameters that follow the reference.
+-- The calls that are lent the interrupter, of a V260 and a V560: each is lent a `&mut Interrupter`, hands the record
+-- behind it to the call by value, stores the record that comes back in its place, and returns the rest. One walk for
+-- all of them, over the module's types and the list of the parameters that follow the reference.
 --     fn f(s: S, i: &mut Interrupter, p: P, ..) -> Lent { let o = by_value::f(s, *i, p, ..); *i = o.interrupter; Lent { answer: o.answer, state: o.state } }
 --     fnOf Ps g        the MIR of such a function, whose call by value has the key g
 --     thin             it meets a contract that says, of the result of the call by value, what is returned and what stands behind the reference at exit
--- Assumes `Given`, and that the call by value meets a contract whose `ensures` is that the result is G of the arguments.
+-- Assumes `Given`, and that the call by value meets a contract whose `ensures` is that the result is G of the
+-- arguments.
 use prog.Model.{Model}
 use prog.Routine.{Routine, Env}
 use contract.Running.{GhostRules, Running, givenOf, tables, tablesOf}
@@ -198,10 +200,12 @@ module _ (K : Kind) where
             move ! (12 ∷ 11 ∷ []) $ fsplit ! $ move ! (1 ∷ []) $ fsplit ! $ fsplit3 ! $ drop ! $ move ! (4 ∷ []) $ split ! $ move ! (1 ∷ []) $ drop ! $ move ! (1 ∷ 2 ∷ 0 ∷ []) $
             opens ! tt I.the-row {h = h} b o (λ us. spelt ! I.the-row (Is I.the-row) (shows 𝓤 H A I.the-row) (LL.vals I.the-type I′.the-laws) (LL.tells I.the-type I′.the-laws) fullShare h us b o $
             move ! (1 ∷ []) $ peeks ! I.the-row (Is I.the-row) (shows 𝓤 H A I.the-row) h (hv h ∷ []) (λ ih. move ! (1 ∷ 0 ∷ []) $
-            -- [the cell; what the record owns; the open borrow; obs; auth; what the rest own; what s owns; the rest; j; …; o; …; i; …; s; …; the result; …]
+            -- [the cell; what the record owns; the open borrow; obs; auth; what the rest own; what s owns; the rest;
+            -- j; …; o; …; i; …; s; …; the result; …]
             assigns ! (of-opd ! (load ! (from ! (hop ! (look ! 12 refl) (stop !))) (look-raw ! 0 refl))) (find ! (at-j Ps bs (o-ty, lₒ) (I′.mir, lⱼ)) (stop !)) (init ! 8 refl (LL.lawful I.the-type I′.the-laws 𝓤 H A W .typed h _ ih .0)) $
             move ! (6 ∷ 1 ∷ 5 ∷ []) $ use3 W (raw (Core .pre to-core)) goes-core $
-            -- [what the core asks; the cell; the open borrow; obs; auth; the rest; j; …; o; …; i; …; s; …; the result; …]
+            -- [what the core asks; the cell; the open borrow; obs; auth; the rest; j; …; o; …; i; …; s; …; the
+            -- result; …]
             calls-at ! fm Core known to-core (and-then ! (load ! (from ! (stop !)) (look ! 12 refl)) (and-then ! (load ! (find ! (at-j Ps bs (o-ty, lₒ) (I′.mir, lⱼ)) (stop !)) (look ! 6 refl)) (rest-opds ! κs Ps bs ps ((o-ty, lₒ) ∷ (I′.mir, lⱼ) ∷ []) (λ k. suc (suc (suc k))) (λ k. refl)))) (λ w.
             use1 W (later (some (λ (r : K .Outcome). (‵ ftrue ⊛ ‵ (O .own r (w ∷ []))) ⊛ raw (ensured 𝓤 H A (coreEnded Ps) c tt (passed κs Ps a) (ghost (passed κs Ps a)) r)))) (id⊢ 𝓤 _) $ await ! tt $ pick ! (λ r.
             split ! $ move ! (1 ∷ []) $ use1 W (raw (fact 𝓤 (r ≡ G (passed κs Ps a)))) (core-of r) $ heard ! (r ≡ G (passed κs Ps a)) (λ e. split ! $ drop ! $
@@ -225,7 +229,8 @@ module _ (K : Kind) where
     meets 𝓣 known = walk-meets 𝓤 H A (thinEnded Ps) (stays Ps) W (go-one 𝓤 H A W 1 (given K), (goes-ref 𝓤 H A W 1 0 tt (plain (λ _. I.the-row)), go-rest 𝓤 H A W Ps)) d
         (WpFn 𝓤 H (𝓣 .C) (𝓣 .Λ) (fnOf Ps core)) (WpFn-mono 𝓤 H (W .laws) 𝓣 (fnOf Ps core)) (walks (𝓣 .C) (𝓣 .Λ) (fmOf 𝓤 H (W .laws) 𝓣) known)
 
-  -- of the function's own code, in its table: `closed` that its entry is that MIR, `means` that the entry of the call by value is that call
+  -- of the function's own code, in its table: `closed` that its entry is that MIR, `means` that the entry of the call
+  -- by value is that call
   pub thin : {M : Type 1} (𝓤 : URA M) (H : Heap 𝓤) (𝓜 : Model 𝓤 H) (𝓖 : GhostRules 𝓤 H) (𝓡 : Running 𝓤 H 𝓜) (Ps : List Par) (γ : Env) (key core : Name) (r : Routine)
       → Closed 𝓤 H (tables 𝓤 H 𝓜 𝓡 γ .C) (tables 𝓤 H 𝓜 𝓡 γ .Λ) key (fnOf Ps core) → γ core ≡ r
       → (G : Args (coreEnded Ps .signature) tt → K .Outcome) (c : Clauses 𝓤 (coreEnded Ps)) (ghost : (a : Args (coreEnded Ps .signature) tt) → c tt a .ghost)

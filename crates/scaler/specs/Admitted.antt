@@ -1,5 +1,5 @@
--- What T4 speaks of (document 01, "Counting"): the pulses that calls bring to a channel, those of them that are admitted, and the calls that clear.
--- Assumes nothing.
+-- What T4 speaks of (document 01, "Counting"): the pulses that calls bring to a channel, those of them that are
+-- admitted, and the calls that clear. Assumes nothing.
 use Prim.Native.Nat.{ℕ, _+_}
 use mathlib.Core.Bool.{Bool, true, false, cond, _&&_, not}
 use mathlib.Core.List.{List, [], _∷_}
@@ -20,7 +20,8 @@ abbrev pub reaches : ℕ → Register → Bool
 reaches n (At at place) = eqb at n
 reaches n (Refused why) = false
 
--- the pulses that a call brings to channel f: its own, and one by TEST or Scale Increase ("a TEST pulse that a channel counts is admitted to it too")
+-- the pulses that a call brings to channel f: its own, and one by TEST or Scale Increase ("a TEST pulse that a
+-- channel counts is admitted to it too")
 abbrev pub pulsesTo : List Row → ℕ → Call → ℕ
 pulsesTo registers f (Pulses k n) = cond (eqb k f) n 0
 pulsesTo registers f (VetoLine on) = 0
@@ -30,7 +31,8 @@ pulsesTo registers f Trigger = 0
 pulsesTo registers f (Access a) = cond (reaches scaleIncrease (lookUp 0 registers a)) 1 0
 pulsesTo registers f ManClr = 0
 
--- the calls that clear: "The clear access zeroes the scales .. The CLEAR line zeroes the scales only. MAN CLR does all three"
+-- the calls that clear: "The clear access zeroes the scales .. The CLEAR line zeroes the scales only. MAN CLR does
+-- all three"
 abbrev pub clears : List Row → Call → Bool
 clears registers (Pulses k n) = false
 clears registers (VetoLine on) = false

@@ -1,4 +1,5 @@
--- A module of sixteen scales, seen from outside: what is said of the V260 and of the V560 alike is said of these words (document 01). Assumes nothing.
+-- A module of sixteen scales, seen from outside: what is said of the V260 and of the V560 alike is said of these
+-- words (document 01). Assumes nothing.
 use mathlib.Core.Bool.{Bool}
 use mathlib.Core.List.{List, [], _∷_}
 use Rattle.bus.specs.declared.Answer.{Answer}
@@ -9,7 +10,8 @@ use Rattle.scaler.specs.declared.Scales.{Scales}
 
 -- its states S, and what a call gives, O
 pub record Module (S O : Type 0) : Type 0 where
-  -- "Every one returns its number, value 0 .. and the old state, interrupter included": the three parts of what a call gives
+  -- "Every one returns its number, value 0 .. and the old state, interrupter included": the three parts of what a
+  -- call gives
   pub answer : O → Answer
   pub state : O → S
   pub interrupter : O → Interrupter

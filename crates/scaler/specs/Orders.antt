@@ -1,5 +1,5 @@
--- What the registers, lines and the button of the V260 and the V560 do alike (document 01, "Counting" and "Registers of the V260 and V560";
--- sections 3 and 4 of source documents 000 and 001). Assumes nothing.
+-- What the registers, lines and the button of the V260 and the V560 do alike (document 01, "Counting" and "Registers
+-- of the V260 and V560"; sections 3 and 4 of source documents 000 and 001). Assumes nothing.
 use Prim.Native.Nat.{ℕ}
 use mathlib.Core.Bool.{Bool, true, false, _||_}
 use mathlib.Core.List.{List}
@@ -11,7 +11,8 @@ use Rattle.scaler.specs.declared.Obeyed.{Obeyed}
 use Rattle.scaler.specs.declared.Order.{Order}
 use Rattle.scaler.specs.declared.Order.the-variants.{ClearAccess, VetoSet, VetoReset, Enable, Disable, RemoveRequest, ClearLine, VetoLine, ManClr}
 
--- power-on, 000, 3.7 and 001, 3.6: "all the scales are cleared", the VME veto is cleared; latches 0, the front line off
+-- power-on, 000, 3.7 and 001, 3.6: "all the scales are cleared", the VME veto is cleared; latches 0, the front line
+-- off
 abbrev pub fresh : Scales
 fresh = record { counts = replicate 16 0; latches = replicate 16 0; line = false; vme = false }
 
@@ -38,8 +39,8 @@ lined on s = record { counts = s .counts; latches = s .latches; line = on; vme =
 abbrev pub both : Scales → Interrupter → Obeyed
 both s i = record { scales = s; interrupter = i }
 
--- "The clear access zeroes the scales, removes the request and disables generation .. The CLEAR line zeroes the scales only. MAN CLR does all
--- three and clears the VME veto."
+-- "The clear access zeroes the scales, removes the request and disables generation .. The CLEAR line zeroes the
+-- scales only. MAN CLR does all three and clears the VME veto."
 abbrev pub obeyed : Order → Scales → Interrupter → Obeyed
 obeyed ClearAccess s i = both (zeroed s) (cleared i)
 obeyed VetoSet s i = both (vetoed true s) i

@@ -1,4 +1,5 @@
--- Document 01, "Numbers that come back", of the V260 and the V560: which number a call gets, and what a refused call leaves. Assumes nothing.
+-- Document 01, "Numbers that come back", of the V260 and the V560: which number a call gets, and what a refused call
+-- leaves. Assumes nothing.
 use Prim.Native.Nat.{ℕ}
 use mathlib.Core.Path.{_≡_}
 use mathlib.Core.Bool.{false, cond}
@@ -12,8 +13,8 @@ use Rattle.scaler.specs.declared.Call.the-variants as call
 use Rattle.scaler.specs.Module.{Module}
 use Rattle.scaler.specs.Rows.{scaleIncrease}
 
--- "Every one returns its number, value 0 .. and the old state, interrupter included": of a call on state s with interrupter i, which hands back l (its
--- answer and its state are read off it) and leaves the interrupter j
+-- "Every one returns its number, value 0 .. and the old state, interrupter included": of a call on state s with
+-- interrupter i, which hands back l (its answer and its state are read off it) and leaves the interrupter j
 abbrev pub Untouched : {S L : Type 0} → (L → Answer) → (L → S) → S → Interrupter → L → Interrupter → Type 0
 Untouched answer state s i l j = isDone (answer l) ≡ false → (state l ≡ s) × (j ≡ i) × (valueOf (answer l) ≡ 0)
 
@@ -26,8 +27,8 @@ module _ {S O : Type 0} (m : Module S O) where
   abbrev pub testNumber : S → ℕ
   testNumber s = cond (m .unjoined s) 0 4
 
-  -- the number of each call, line by line of the list in the module order: 12, then 1, 2 and 3 by the table, 11, and 4; a trigger, for which there is no
-  -- input, gets 4 (docs/FORMATS.md, `trace`)
+  -- the number of each call, line by line of the list in the module order: 12, then 1, 2 and 3 by the table, 11, and
+  -- 4; a trigger, for which there is no input, gets 4 (docs/FORMATS.md, `trace`)
   abbrev pub numberFor : S → Interrupter → Call → ℕ
   numberFor s i (call.Pulses x n) = cond (m .formed s i) (cond (ltb x 16) 0 11) 12
   numberFor s i (call.VetoLine on) = cond (m .formed s i) 0 12

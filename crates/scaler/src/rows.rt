@@ -1,4 +1,5 @@
-// The names of the rows of a module's table, each the row's place: the same in both tables (table 4.1 of source documents 000 and 001).
+// The names of the rows of a module's table, each the row's place: the same in both tables (table 4.1 of source
+// documents 000 and 001).
 
 pub const STATUS: usize = 0;
 

@@ -1,4 +1,5 @@
--- A list that is filled from its front, and bytes that are moved to the front of their buffer, one after the other. Assumes nothing.
+-- A list that is filled from its front, and bytes that are moved to the front of their buffer, one after the other.
+-- Assumes nothing.
 use Prim.Native.Nat.{ℕ, zero, suc, _+_, _<_}
 use mathlib.Core.Path.{_≡_, refl, sym, ap, _∙_}
 use mathlib.Core.List.{List}

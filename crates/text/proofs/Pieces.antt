@@ -1,4 +1,5 @@
--- A text that is put piece by piece: putting what is left gives the whole. And a line's pieces: a number and its mark. Assumes nothing.
+-- A text that is put piece by piece: putting what is left gives the whole. And a line's pieces: a number and its
+-- mark. Assumes nothing.
 use Prim.Native.Nat.{ℕ, suc, _+_, _-_, _≤_, _<_}
 use mathlib.Core.Path.{_≡_, refl, sym, ap, ap₂, _∙_}
 use mathlib.Core.Bool.{cond}

@@ -1,4 +1,5 @@
--- Bytes put into a buffer: where they fit and where not, the buffer's length, and two puts that are one. Assumes nothing.
+-- Bytes put into a buffer: where they fit and where not, the buffer's length, and two puts that are one. Assumes
+-- nothing.
 use Prim.Native.Nat.{ℕ, _+_, _-_, _≤_, _<_}
 use mathlib.Core.Path.{_≡_, refl, sym, ap, ap₂, _∙_}
 use mathlib.Core.Bool.{Bool, true, false, cond, not}

@@ -1,4 +1,5 @@
--- How a trace begins; docs/FORMATS.md, `trace`: "a head of numbers .. The head's first number names the module." Assumes nothing.
+-- How a trace begins; docs/FORMATS.md, `trace`: "a head of numbers .. The head's first number names the module."
+-- Assumes nothing.
 use Prim.Native.Nat.{ℕ, _-_, _^_}
 use mathlib.Core.Bool.{cond}
 use mathlib.Core.List.{List, [], _∷_}

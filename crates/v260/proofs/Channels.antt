@@ -1,5 +1,5 @@
--- The channels of a joined scale, as a run in the sense of Runs: each comes once, round past 15, and no channel outside clocks one of them. What carries
--- it is plain arithmetic modulo 16. Assumes nothing.
+-- The channels of a joined scale, as a run in the sense of Runs: each comes once, round past 15, and no channel
+-- outside clocks one of them. What carries it is plain arithmetic modulo 16. Assumes nothing.
 use Prim.Native.Nat.{ℕ, zero, suc, _+_, _-_, _%_, _≤_, _<_}
 use mathlib.Core.Path.{_≡_, refl, sym, ap, subst, _∙_}
 use mathlib.Core.Bool.{true, false, false≢true}

@@ -1,5 +1,5 @@
--- The V260 stays well formed (document 01, 12: "a count above its width", "level above 7"): what Formed asks of its own calls; the theorems follow. And a start
--- that is refused. Assumes nothing.
+-- The V260 stays well formed (document 01, 12: "a count above its width", "level above 7"): what Formed asks of its
+-- own calls; the theorems follow. And a start that is refused. Assumes nothing.
 use Prim.Native.Nat.{ℕ, zero, suc, _+_, _%_, _^_, _≤_, _<_}
 use mathlib.Core.Path.{_≡_, refl}
 use mathlib.Core.Bool.{Bool, true, false, cond, _&&_}
@@ -138,7 +138,8 @@ v260-start-number switches level = go (decLt 7 level)
     go (yes h) = rw (lt-leb level 7 h, lt-ltb 7 level h)
     go (no h) = let l : level ≤ 7 = omega arith in rw (le-leb level 7 l, le-ltb 7 level l)
 
--- "A refused start returns the power-on record .. which gets 12 from then on": each call, after any list of calls, gets it and leaves that record
+-- "A refused start returns the power-on record .. which gets 12 from then on": each call, after any list of calls,
+-- gets it and leaves that record
 pub refused-start : (switches : Switches) (level : ℕ) (calls : List Call) (c : Call) → 7 < level
     → (numberOf (stepOf (calledOf v260 calls (startOf switches level) .state) (calledOf v260 calls (startOf switches level) .interrupter) c .answer) ≡ 12)
     × (stepOf (calledOf v260 calls (startOf switches level) .state) (calledOf v260 calls (startOf switches level) .interrupter) c .state ≡ startOf switches level .state)

@@ -1,6 +1,7 @@
--- T4 for the V260 (document 01, "Counting"): "A run of k channels with an unjoined first one, from all zero and with no clear since, holds the pulses
--- admitted to its first channel modulo 2^(24k)", also round past channel 15. "With all sixteen joined nothing counts." Over every list of calls, stated
--- of the definitions that the contracts are equations with. Assumes nothing.
+-- T4 for the V260 (document 01, "Counting"): "A run of k channels with an unjoined first one, from all zero and with
+-- no clear since, holds the pulses admitted to its first channel modulo 2^(24k)", also round past channel 15. "With
+-- all sixteen joined nothing counts." Over every list of calls, stated of the definitions that the contracts are
+-- equations with. Assumes nothing.
 use Prim.Native.Nat.{ℕ, suc, _*_, _%_, _^_, _<_}
 use mathlib.Core.Path.{_≡_, refl, sym, ap, subst, _∙_}
 use mathlib.Core.Bool.{Bool, true, false, not, false≢true}

@@ -1,4 +1,5 @@
--- The V260's types, as the calls that are lent the interrupter have them: what their proofs give to scaler's `thin`. Assumes nothing.
+-- The V260's types, as the calls that are lent the interrupter have them: what their proofs give to scaler's `thin`.
+-- Assumes nothing.
 use mathlib.Core.Path.{refl}
 use Rattle.v260.specs.Outcomes.{lentOf}
 use Rattle.v260.specs.declared.Outcome.{Outcome}

@@ -23,7 +23,8 @@ after k = (k + 1) % 16
 abbrev pub isJoined : Switches → ℕ → Bool
 isJoined switches k = eqb (bit (switches .joined) k) 1
 
--- "a channel joined to the one before it (0 to 15) is clocked when that one goes from all ones to 0": sixteen in a row at most
+-- "a channel joined to the one before it (0 to 15) is clocked when that one goes from all ones to 0": sixteen in a
+-- row at most
 abbrev pub pulsed : Switches → List ℕ → ℕ → List ℕ
 pulsed switches counts k = clocked 24 (λ k. isJoined switches (after k)) after 16 k counts
 
@@ -53,7 +54,8 @@ abbrev pub counted : List ℕ → V260 → Interrupter → Outcome
 counted after s i =
     done 0 (scaled (counting after (s .scales)) s) (raised (rose (s .switches) (s .scales .counts) after) i)
 
--- one pulse on input k: it is not admitted when the module is inhibited, and of a joined channel "Its own input does nothing"
+-- one pulse on input k: it is not admitted when the module is inhibited, and of a joined channel "Its own input does
+-- nothing"
 abbrev pub pulse : ℕ → Outcome → Outcome
 pulse k o =
     cond (inhibited (o .state .scales) || isJoined (o .state .switches) k)

@@ -8,8 +8,8 @@ use Rattle.v260.specs.declared.Switches.{Switches}
 use Rattle.v260.specs.declared.V260.{V260}
 use Rattle.v260.specs.Counting.{after, isJoined}
 
--- "A run of k channels with an unjoined first one": k + 1 channels from channel f on, round past 15; the first is not joined to the one before it, the
--- others are, and the channel behind them is not
+-- "A run of k channels with an unjoined first one": k + 1 channels from channel f on, round past 15; the first is not
+-- joined to the one before it, the others are, and the channel behind them is not
 pub record Joined (switches : Switches) (f k : ℕ) : Type 0 where
   pub first : f < 16
   pub many : k < 16

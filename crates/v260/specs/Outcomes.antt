@@ -22,7 +22,8 @@ refused why s i = record { answer = why; state = s; interrupter = i }
 abbrev pub done : ℕ → V260 → Interrupter → Outcome
 done v s i = record { answer = Done v; state = s; interrupter = i }
 
--- "The interrupter is one small record, lent to each access and changed in its place": what the call hands back beside it
+-- "The interrupter is one small record, lent to each access and changed in its place": what the call hands back
+-- beside it
 abbrev pub lentOf : Outcome → Lent
 lentOf o = record { answer = o .answer; state = o .state }
 
@@ -46,7 +47,8 @@ formed s i after = unless (isFormed s i) Malformed s i after
 abbrev pub scaled : Scales → V260 → V260
 scaled c s = record { scales = c; switches = s .switches }
 
--- "A refused start returns the power-on record .. (V260: switches as given, its interrupter with level 8), which gets 12 from then on"
+-- "A refused start returns the power-on record .. (V260: switches as given, its interrupter with level 8), which gets
+-- 12 from then on"
 abbrev pub startFor : Bool → V260 → ℕ → Outcome
 startFor true s level = done 0 s (powerOn level)
 startFor false s level = refused Malformed s (powerOn 8)

@@ -1,5 +1,5 @@
--- The registers of the V260 (table 4.1 and sections 4.4 to 4.12 of source document 001; document 01, "Registers of the V260 and V560").
--- Assumes nothing.
+-- The registers of the V260 (table 4.1 and sections 4.4 to 4.12 of source document 001; document 01, "Registers of
+-- the V260 and V560"). Assumes nothing.
 use Prim.Native.Nat.{ℕ, _+_, _/_, _%_}
 use mathlib.Core.Bool.{Bool, cond}
 use mathlib.Core.List.{List, [], _∷_}
@@ -21,8 +21,9 @@ use Rattle.v260.specs.declared.Outcome.{Outcome}
 use Rattle.v260.specs.Outcomes.{refused, done, formed, scaled}
 use Rattle.v260.specs.Counting.{tested}
 
--- table 4.1, from the top: first and last offset, of which every fourth is meant, widths, directions (1 read, 2 write, 3 both). "A counter's
--- entry covers its offset (V260 and V560: 16 or 32 bits) and, there, offset + 2 (16 only)". Rows 7, 13, 14 and 15 have no offset.
+-- table 4.1, from the top: first and last offset, of which every fourth is meant, widths, directions (1 read, 2
+-- write, 3 both). "A counter's entry covers its offset (V260 and V560: 16 or 32 bits) and, there, offset + 2 (16
+-- only)". Rows 7, 13, 14 and 15 have no offset.
 abbrev pub registers : List Row
 registers =
     row 0x58 0x58 16 1  -- Interrupt jumper status
@@ -69,8 +70,8 @@ counterAt k s i width =
 abbrev pub lowerAt : ℕ → V260 → Interrupter → Outcome
 lowerAt k s i = done (getD (s .scales .latches) k 0 % 0x10000) s i
 
--- what an access does at a row of the table and a place in it: the status has all sixteen switches (4.4), the level its three bits (4.11), the
--- vector eight (4.12); 1: there is no other row
+-- what an access does at a row of the table and a place in it: the status has all sixteen switches (4.4), the level
+-- its three bits (4.11), the vector eight (4.12); 1: there is no other row
 abbrev pub performed : ℕ → ℕ → V260 → Interrupter → Access → Outcome
 performed at place s i a =
     cond (eqb at status) (done (s .switches .interrupts) s i)

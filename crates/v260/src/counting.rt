@@ -1,4 +1,5 @@
-// What pulses do: a channel counts, the channels joined behind it count its carries, and a watched bit that rises requests.
+// What pulses do: a channel counts, the channels joined behind it count its carries, and a watched bit that rises
+// requests.
 ghost use mathlib.Core.Path.{_≡_};
 ghost use Prim.Native.Nat.{_<_};
 ghost use Rattle.count.specs.Counter.{iterate};

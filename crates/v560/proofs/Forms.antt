@@ -1,4 +1,5 @@
--- The V560 stays well formed (document 01, 12: "level above 7"): what Formed asks of its own calls; the theorems follow. Assumes nothing.
+-- The V560 stays well formed (document 01, 12: "level above 7"): what Formed asks of its own calls; the theorems
+-- follow. Assumes nothing.
 use Prim.Native.Nat.{ℕ, _%_}
 use mathlib.Core.Path.{_≡_}
 use mathlib.Core.Bool.{Bool, true, false}

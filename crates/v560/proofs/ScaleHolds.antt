@@ -1,6 +1,7 @@
--- T4 for the V560 (document 01, "Counting"): "joined section n is a 64-bit scale, channel 2n+1 low, channel 2n high, clocked by input 2n+1". From zero
--- and with no clear since, it holds the pulses admitted to input 2n+1 modulo 2^64; a channel whose section is not joined holds those admitted to its own
--- input modulo 2^32. Over every list of calls, stated of the definitions that the contracts are equations with. Assumes nothing.
+-- T4 for the V560 (document 01, "Counting"): "joined section n is a 64-bit scale, channel 2n+1 low, channel 2n high,
+-- clocked by input 2n+1". From zero and with no clear since, it holds the pulses admitted to input 2n+1 modulo 2^64;
+-- a channel whose section is not joined holds those admitted to its own input modulo 2^32. Over every list of calls,
+-- stated of the definitions that the contracts are equations with. Assumes nothing.
 use Prim.Native.Nat.{ℕ, _+_, _*_, _%_, _^_, _<_}
 use mathlib.Core.Path.{_≡_, sym, _∙_}
 use mathlib.Core.Bool.{true, false}
@@ -35,7 +36,8 @@ pub v560-section-holds : (n : ℕ) (calls : List Call) (s : V560) (i : Interrupt
 v560-section-holds n calls s i h j l z e =
     scale-holds inside 32 (section n) (2 * n + 1) (Fit n) (own n) (scale n) calls (done 0 s i) (record { among-eight = h; joined = j; size = l }) z e
 
--- T4: "A counter of w bits counts modulo 2^w": the section of channel k not joined, its count zero, and any calls of which none clears
+-- T4: "A counter of w bits counts modulo 2^w": the section of channel k not joined, its count zero, and any calls of
+-- which none clears
 pub v560-channel-holds : (k : ℕ) (calls : List Call) (s : V560) (i : Interrupter)
     → k < 16
     → isJoined (s .joined) k ≡ false

@@ -1,4 +1,5 @@
--- A channel of the V560 whose section is not joined, as a scale of one: what every call that does not clear does to it. Assumes nothing.
+-- A channel of the V560 whose section is not joined, as a scale of one: what every call that does not clear does to
+-- it. Assumes nothing.
 use Prim.Native.Nat.{ℕ, _+_, _-_, _/_, _%_, _<_}
 use mathlib.Core.Path.{_≡_, refl, sym, ap, _∙_}
 use mathlib.Core.Bool.{true, false, false≢true}

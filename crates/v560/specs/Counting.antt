@@ -50,7 +50,8 @@ abbrev pub counted : List ℕ → V560 → Interrupter → Outcome
 counted after s i =
     done 0 (scaled (counting after (s .scales)) s) (raised (rose (s .joined) (s .sections) (s .scales .counts) after) i)
 
--- one pulse on input k: it is not admitted when the module is inhibited, and "Input 2n then does nothing" of a joined section
+-- one pulse on input k: it is not admitted when the module is inhibited, and "Input 2n then does nothing" of a joined
+-- section
 abbrev pub pulse : ℕ → Outcome → Outcome
 pulse k o =
     cond (inhibited (o .state .scales) || isHigh (o .state .joined) k)

@@ -19,7 +19,8 @@ refused why s i = record { answer = why; state = s; interrupter = i }
 abbrev pub done : ℕ → V560 → Interrupter → Outcome
 done v s i = record { answer = Done v; state = s; interrupter = i }
 
--- "The interrupter is one small record, lent to each access and changed in its place": what the call hands back beside it
+-- "The interrupter is one small record, lent to each access and changed in its place": what the call hands back
+-- beside it
 abbrev pub lentOf : Outcome → Lent
 lentOf o = record { answer = o .answer; state = o .state }
 

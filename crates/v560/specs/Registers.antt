@@ -1,5 +1,5 @@
--- The registers of the V560 (table 4.1 and sections 4.4 to 4.13 of source document 000; document 01, "Registers of the V260 and V560").
--- Assumes nothing.
+-- The registers of the V560 (table 4.1 and sections 4.4 to 4.13 of source document 000; document 01, "Registers of
+-- the V260 and V560"). Assumes nothing.
 use Prim.Native.Nat.{ℕ, _+_, _/_, _%_}
 use mathlib.Core.Bool.{Bool, true, false, cond, not}
 use mathlib.Core.List.{List, [], _∷_}
@@ -21,8 +21,9 @@ use Rattle.v560.specs.declared.Outcome.{Outcome}
 use Rattle.v560.specs.Outcomes.{refused, done, formed, scaled}
 use Rattle.v560.specs.Counting.{tested}
 
--- table 4.1, from the top: first and last offset, of which every fourth is meant, widths, directions (1 read, 2 write, 3 both). "A counter's
--- entry covers its offset (V260 and V560: 16 or 32 bits) and, there, offset + 2 (16 only)". The last three rows have no offset.
+-- table 4.1, from the top: first and last offset, of which every fourth is meant, widths, directions (1 read, 2
+-- write, 3 both). "A counter's entry covers its offset (V260 and V560: 16 or 32 bits) and, there, offset + 2 (16
+-- only)". The last three rows have no offset.
 abbrev pub registers : List Row
 registers =
     row 0x58 0x58 16 1  -- Scale Status register

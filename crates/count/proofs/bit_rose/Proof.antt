@@ -1,4 +1,5 @@
--- A number below 2 ^ 32 has no bit from 32 on (`no-bit`); else the code's two tests are the definition's. Assumes nothing.
+-- A number below 2 ^ 32 has no bit from 32 on (`no-bit`); else the code's two tests are the definition's. Assumes
+-- nothing.
 use borrow.Author.Needs.{needs}
 use borrow.Author.Tests.{eq-eqb, ne-eqb}
 use native.Mathlib.Omega.{arith}

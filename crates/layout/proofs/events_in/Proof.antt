@@ -1,4 +1,5 @@
--- The tests of the definition; a quotient with a rest is below what was divided, so that rounding up stays in 32 bits. Assumes nothing.
+-- The tests of the definition; a quotient with a rest is below what was divided, so that rounding up stays in 32
+-- bits. Assumes nothing.
 use native.Mathlib.Nat.{add-zero}
 use native.Mathlib.Omega.{arith}
 use borrow.Author.Needs.{needs}

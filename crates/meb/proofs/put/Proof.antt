@@ -1,4 +1,5 @@
--- Where too few words are free nothing is put; else a memory of some words gets them, and one of none has none to get. Assumes nothing.
+-- Where too few words are free nothing is put; else a memory of some words gets them, and one of none has none to
+-- get. Assumes nothing.
 use mathlib.Core.Path.{_≡_, sym, ap, _∙_}
 use mathlib.Core.Logic.{⊎-elim}
 use Prim.Native.Nat.{_+_, _-_}

@@ -1,4 +1,5 @@
--- The lines put so far and those that are left give the whole run (Going); a turn is one clause of `runOf`. Assumes nothing.
+-- The lines put so far and those that are left give the whole run (Going); a turn is one clause of `runOf`. Assumes
+-- nothing.
 use mathlib.Core.Path.{_≡_, refl, sym, ap, _∙_}
 use native.Mathlib.Omega.{arith}
 use denote.Ref.{now}

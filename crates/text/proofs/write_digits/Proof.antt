@@ -1,4 +1,5 @@
--- With the digits still to come put before it, what is stored is the whole; a turn stores the last digit of the rest. Assumes nothing.
+-- With the digits still to come put before it, what is stored is the whole; a turn stores the last digit of the rest.
+-- Assumes nothing.
 use Prim.Native.Nat.{_≤_}
 use mathlib.Core.Path.{_≡_, refl, sym, _∙_}
 use native.Mathlib.Omega.{arith}

@@ -1,4 +1,5 @@
--- The data left and the words from the place reached decide; one turn is one clause of the definition. Assumes nothing.
+-- The data left and the words from the place reached decide; one turn is one clause of the definition. Assumes
+-- nothing.
 use mathlib.Core.Path.{ap, _∙_}
 use lib.ListN.{drop}
 use Rattle.layout.specs.declared.Answer.the-variants.{Done}

@@ -1,4 +1,5 @@
--- The data left and the words from the place reached give the counts; one turn is one clause of the definition. Assumes nothing.
+-- The data left and the words from the place reached give the counts; one turn is one clause of the definition.
+-- Assumes nothing.
 use lib.ListN.{drop, replicate}
 use Rattle.layout.specs.Reader.{countsRead}
 use Rattle.layout.specs.Length.{enabledChannels, headerLength}

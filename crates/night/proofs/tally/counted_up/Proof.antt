@@ -1,4 +1,5 @@
--- The last byte alone is one more where the last digit does not go round, and the last two 247 more where that alone does. Assumes nothing.
+-- The last byte alone is one more where the last digit does not go round, and the last two 247 more where that alone
+-- does. Assumes nothing.
 use Prim.Native.Nat.{ℕ, _+_, _/_, _%_}
 use mathlib.Core.Path.{sym, ap, ap₂, _∙_}
 use native.Mathlib.Omega.{arith}

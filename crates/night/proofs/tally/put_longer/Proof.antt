@@ -1,4 +1,5 @@
--- There is no room; or the digits with what is left of the word, the blank and the two numbers behind it are the line. Assumes nothing.
+-- There is no room; or the digits with what is left of the word, the blank and the two numbers behind it are the
+-- line. Assumes nothing.
 use Prim.Native.Nat.{_+_, _-_, _*_, _%_, _^_, _≤_}
 use mathlib.Core.Path.{refl, sym, ap, _∙_}
 use native.Mathlib.Omega.{arith}

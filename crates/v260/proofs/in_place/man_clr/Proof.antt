@@ -1,4 +1,5 @@
--- `v260::in_place::man_clr` meets its contract: scaler's `thin`, at its parameters after the reference and at what `by_value::man_clr` ensures. Assumes nothing.
+-- `v260::in_place::man_clr` meets its contract: scaler's `thin`, at its parameters after the reference and at what
+-- `by_value::man_clr` ensures. Assumes nothing.
 use mathlib.Core.List.{[]}
 use base.Logic.{id⊢}
 use contract.Monad.{factI}
