@@ -6,10 +6,12 @@ ghost use Rattle.blocks.specs.Words.{wordOf, wordsFrom, wholeWords, word
 ghost use Rattle.layout.specs.Reader.{readOf};
 use benchlog::Fault;
 use head::Head;
+use layout::Answer;
 use layout::Event;
 use layout::Reading;
 use layout::Reply;
 use layout::Settings;
+use stdio::Amiss;
 use stdio::Listing;
 
 // The limits of the head's numbers: header, short, enable.
@@ -79,25 +81,39 @@ fn numbers_of(place: u64, reply: Reply, event: Event) -> [u64; 38]
     numbers
 }
 
-// Puts the line of the event that begins at a word.
-fn put_event(out: &mut [u8], at: usize, place: u64, reply: Reply, event: Event) -> usize {
+// Puts the line of the event at the first byte not used, and goes on behind it or ends the listing. The first captured
+// word stands at the input's place `from`.
+fn listed(out: &mut [u8], l: Listing, reply: Reply, event: Event, from: u64) -> Listing
+    ensures { λ r. ⌜ r .have ≡ l .have ⌝ }
+{
+    let place = std::num::wrapping_sub_u64(stdio::place(l, l.used), from) / 4;
     let numbers = numbers_of(place, reply, event);
-    let room = stdio::make_room(out, at, 798);
-    text::put_line(out, room, &numbers)
+    let mut after = l;
+    after.at = text::put_line(out, l.at, &numbers);
+    if reply.number != 0 {
+        return stdio::stop(after, Amiss::Refused(reply.number, place));
+    }
+    after.used = behind(l.used, reply.value);
+    after
 }
 
-// Lists the event that comes next, or reads on, or ends the listing. The first captured word stands at
-// the input's place `from`.
-fn turn(buf: &mut [u8], out: &mut [u8], l: Listing, settings: Settings, from: u64) -> Listing
-    requires { ⌜ l .have ≤ length (now buf) ⌝ }
+// The place behind an event of so many words that begins at a place.
+fn behind(used: usize, words: u32) -> usize {
+    std::num::wrapping_add_usize(used, 4 * words as usize)
+}
+
+// Lists the event that comes next, or reads on where its words are not all there, or ends the listing. A line has 38
+// numbers.
+fn turn(buf: &mut [u8], out: &mut [u8], before: Listing, settings: Settings, from: u64) -> Listing
+    requires { ⌜ before .have ≤ length (now buf) ⌝ }
     ensures { λ r. ⌜ r .have ≤ length (now (buf .entry)) ⌝ }
 {
-    let left = unused(l);
-    if left < 132 && !l.ended {
-        return stdio::read_on(buf, l);
-    }
-    if left < 4 {
+    let l = stdio::make_room(out, before, 798);
+    if unused(l) < 4 && l.ended {
         return stdio::end(out, l, benchlog::fault_number(Fault::Ends));
+    }
+    if unused(l) < 4 {
+        return stdio::read_on(buf, stdio::flush(out, l));
     }
     let used = l.used;
     let have = l.have;
@@ -105,20 +121,20 @@ fn turn(buf: &mut [u8], out: &mut [u8], l: Listing, settings: Settings, from: u6
     let answer = r.answer;
     let event = r.event;
     let reply = layout::numbered(answer);
-    let place = std::num::wrapping_sub_u64(stdio::place(l, used), from) / 4;
-    let at = put_event(out, l.at, place, reply, event);
-    Listing {
-        used: used + 4 * reply.value as usize,
-        have,
-        ended: l.ended,
-        base: l.base,
-        at,
-        more: reply.number == 0,
+    if reply.number == words_end() && !l.ended {
+        return stdio::read_on(buf, stdio::flush(out, l));
     }
+    listed(out, l, reply, event, from)
+}
+
+// The number of an event whose words end before it does.
+fn words_end() -> u32 {
+    let reply = layout::numbered(Answer::WordsEnd);
+    reply.number
 }
 
 // Lists the events behind a head.
-fn list_events(buf: &mut [u8], out: &mut [u8], first: Listing, head: Head)
+fn list_events(buf: &mut [u8], out: &mut [u8], first: Listing, head: Head) -> Listing
     requires { ⌜ first .have ≤ length (now buf) ⌝ }
 {
     let at = text::put_text(
@@ -131,33 +147,37 @@ fn list_events(buf: &mut [u8], out: &mut [u8], first: Listing, head: Head)
         short: head.values[1] == 1,
         enable: head.values[2],
     };
-    let mut l = Listing {
-        used: head.after,
-        have: first.have,
-        ended: first.ended,
-        base: first.base,
-        at,
-        more: true,
-    };
-    let mut turns = u64::MAX;
+    let mut l = first;
+    l.used = head.after;
+    l.at = at;
+    let mut turns = stdio::TURNS;
     while turns > 0 && l.more {
         l = turn(buf, out, l, settings, head.after as u64);
         turns -= 1;
     }
-    stdio::flush(out, l.at);
+    l
 }
 
-// The whole listing; a refused head is its fault line alone.
-fn run(buf: &mut [u8], out: &mut [u8]) {
-    let first = head::begin(buf, &LIMITS);
+// The listing behind its beginning; a refused head is its fault line alone.
+fn list(buf: &mut [u8], out: &mut [u8], first: Listing) -> Listing
+    requires { ⌜ first .have ≤ length (now buf) ⌝ }
+{
+    if !first.more {
+        return first;
+    }
     let have = first.have;
     let head = head::read_head(&buf[..have], &LIMITS);
     if head.answer == 0 {
-        list_events(buf, out, first, head);
-        return;
+        return list_events(buf, out, first, head);
     }
-    let at = text::put_fault(out, 0, head.answer, 0);
-    stdio::flush(out, at);
+    stdio::fault(out, first, head.answer)
+}
+
+// The whole listing.
+fn run(buf: &mut [u8], out: &mut [u8]) {
+    let first = head::begin(buf, &LIMITS);
+    let last = list(buf, out, first);
+    stdio::close(out, last);
 }
 
 // The two buffers, of 64 KiB each.

@@ -3,6 +3,8 @@ use benchlog::Entry;
 use marked::marked;
 use modules::Which;
 use running::wrong_in;
+use stdio::Amiss;
+use stdio::Listing;
 
 mod marked;
 mod running;
@@ -26,28 +28,29 @@ pub(crate) struct Case {
     pub(crate) pulses: u32,
 }
 
-// Puts the line of a case.
-fn put_case(out: &mut [u8], at: usize, number: usize, c: Case) -> usize {
-    let numbers = [
-        number as u64,
-        c.line as u64,
-        c.many as u64,
-        wrong_in(c) as u64,
-    ];
-    let room = stdio::make_room(out, at, 84);
-    text::put_line(out, room, &numbers)
+// Puts the line of a case; one that is wrong is what is amiss with the listing.
+fn put_case(out: &mut [u8], before: Listing, number: usize, c: Case) -> Listing {
+    let case = number as u64;
+    let wrong = wrong_in(c) as u64;
+    let numbers = [case, c.line as u64, c.many as u64, wrong];
+    let mut l = stdio::make_room(out, before, 84);
+    l.at = text::put_line(out, l.at, &numbers);
+    if wrong != 0 {
+        return stdio::stop(l, Amiss::Wrong(case, wrong));
+    }
+    l
 }
 
 // The whole listing.
 fn run(out: &mut [u8]) {
     let cases = marked();
-    let mut at = text::put_text(out, 0, b"case line steps wrong\n");
+    let mut l = stdio::begin(text::put_text(out, 0, b"case line steps wrong\n"));
     let mut k: usize = 0;
     while k < 9 {
-        at = put_case(out, at, k + 1, cases[k]);
+        l = put_case(out, l, k + 1, cases[k]);
         k += 1;
     }
-    stdio::flush(out, at);
+    stdio::close(out, l);
 }
 
 // The buffer of the lines.

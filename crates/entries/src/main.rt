@@ -17,30 +17,25 @@ fn listed(out: &mut [u8], l: Listing, e: Fields) -> Listing
         e.third as u64,
         stdio::place(l, e.place),
     ];
-    let room = stdio::make_room(out, l.at, 126);
-    let at = text::put_line(out, room, &numbers);
-    Listing {
-        used: e.place,
-        have: l.have,
-        ended: l.ended,
-        base: l.base,
-        at,
-        more: l.more,
-    }
+    let mut after = l;
+    after.at = text::put_line(out, l.at, &numbers);
+    after.used = e.place;
+    after
 }
 
-// Lists the entry that comes next, or reads on, or ends the listing.
-fn turn(buf: &mut [u8], out: &mut [u8], l: Listing) -> Listing
-    requires { ⌜ l .have ≤ length (now buf) ⌝ }
+// Lists the entry that comes next, or reads on, or ends the listing. A line has six numbers.
+fn turn(buf: &mut [u8], out: &mut [u8], before: Listing) -> Listing
+    requires { ⌜ before .have ≤ length (now buf) ⌝ }
     ensures { λ r. ⌜ r .have ≤ length (now (buf .entry)) ⌝ }
 {
+    let l = stdio::make_room(out, before, 126);
     let have = l.have;
     let e = benchlog::numbers_of(benchlog::read_entry(&buf[..have], l.used));
     if e.answer == 0 {
         return listed(out, l, e);
     }
     if !l.ended && e.answer == benchlog::fault_number(Fault::Ends) {
-        return stdio::read_on(buf, l);
+        return stdio::read_on(buf, stdio::flush(out, l));
     }
     stdio::end(out, l, e.answer)
 }
@@ -49,12 +44,12 @@ fn turn(buf: &mut [u8], out: &mut [u8], l: Listing) -> Listing
 fn run(buf: &mut [u8], out: &mut [u8]) {
     let at = text::put_text(out, 0, b"place kind first second third next\n");
     let mut l = stdio::begin(at);
-    let mut turns = u64::MAX;
+    let mut turns = stdio::TURNS;
     while turns > 0 && l.more {
         l = turn(buf, out, l);
         turns -= 1;
     }
-    stdio::flush(out, l.at);
+    stdio::close(out, l);
 }
 
 // The two buffers, of 64 KiB each.

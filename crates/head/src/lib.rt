@@ -50,12 +50,12 @@ fn refused(answer: u32) -> Head
     }
 }
 
-// Begins a listing: reads on until the head is whole or refused, or the input has ended.
+// Begins a listing: reads on until the head is whole or refused, or the input has ended, or a read fails.
 pub fn begin(buf: &mut [u8], limits: &[u32]) -> Listing
     ensures { λ r. ⌜ Begun (now (buf .exit)) (now (limits .entry)) r ⌝ }
 {
     let mut l = stdio::begin(0);
-    while !l.ended && is_cut(buf, l, limits) {
+    while l.more && !l.ended && is_cut(buf, l, limits) {
         l = stdio::read_on(buf, l);
     }
     l

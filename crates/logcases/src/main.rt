@@ -1,4 +1,5 @@
 // Reads many small logs in one run and shows what the log reader answers at each place.
+ghost use mathlib.Core.Path.{_≡_};
 ghost use Prim.Native.Nat.{_≤_};
 ghost use lib.ListN.{length};
 use benchlog::Fault;
@@ -79,7 +80,9 @@ fn read_case(input: &[u8], at: usize) -> Case
 }
 
 // Puts the line of a call.
-fn put_call(out: &mut [u8], at: usize, e: Fields, n: Number) -> usize {
+fn put_call(out: &mut [u8], before: Listing, e: Fields, n: Number) -> Listing
+    ensures { λ r. ⌜ r .have ≡ before .have ⌝ }
+{
     let numbers = [
         e.answer as u64,
         e.kind as u64,
@@ -91,24 +94,27 @@ fn put_call(out: &mut [u8], at: usize, e: Fields, n: Number) -> usize {
         n.value as u64,
         n.after as u64,
     ];
-    let room = stdio::make_room(out, at, 189);
-    text::put_line(out, room, &numbers)
+    let mut l = stdio::make_room(out, before, 189);
+    l.at = text::put_line(out, l.at, &numbers);
+    l
 }
 
 // Puts the lines of a case. A log of n bytes has at most n entries, and a refusal behind them.
-fn put_case(log: &[u8], start: usize, out: &mut [u8], at: usize) -> usize {
+fn put_case(log: &[u8], start: usize, out: &mut [u8], before: Listing) -> Listing
+    ensures { λ r. ⌜ r .have ≡ before .have ⌝ }
+{
     let mut place = start;
-    let mut p = at;
+    let mut l = before;
     let mut answer = 0;
     let mut i = 0;
     while i <= log.len() && answer == 0 {
         let e = benchlog::numbers_of(benchlog::read_entry(log, place));
-        p = put_call(out, p, e, numbered(benchlog::read_number(log, place)));
+        l = put_call(out, l, e, numbered(benchlog::read_number(log, place)));
         answer = e.answer;
         place = e.place;
         i += 1;
     }
-    p
+    l
 }
 
 // Lists the case that comes next, or reads on, or ends the listing.
@@ -121,20 +127,14 @@ fn turn(buf: &mut [u8], out: &mut [u8], l: Listing) -> Listing
     if c.answer == 0 {
         let from = c.from;
         let to = c.to;
-        let at = put_case(&buf[from..to], c.start, out, l.at);
-        return Listing {
-            used: to,
-            have,
-            ended: l.ended,
-            base: l.base,
-            at,
-            more: l.more,
-        };
+        let mut after = put_case(&buf[from..to], c.start, out, l);
+        after.used = to;
+        return after;
     }
     if !l.ended && c.answer == benchlog::fault_number(Fault::Ends) {
-        return stdio::read_on(buf, l);
+        return stdio::read_on(buf, stdio::flush(out, l));
     }
-    stdio::end(out, l, c.answer)
+    stdio::end(out, stdio::make_room(out, l, 48), c.answer)
 }
 
 // The whole listing.
@@ -145,12 +145,12 @@ fn run(buf: &mut [u8], out: &mut [u8]) {
         b"answer kind first second third place number value after\n",
     );
     let mut l = stdio::begin(at);
-    let mut turns = u64::MAX;
+    let mut turns = stdio::TURNS;
     while turns > 0 && l.more {
         l = turn(buf, out, l);
         turns -= 1;
     }
-    stdio::flush(out, l.at);
+    stdio::close(out, l);
 }
 
 // The two buffers, of 64 KiB each.

@@ -1,11 +1,14 @@
 // Writes one event of a V830 to lent words and shows them.
 ghost use mathlib.Core.Path.{_≡_};
 ghost use Prim.Native.Nat.{_≤_};
+ghost use lib.ListN.{length};
 ghost use Rattle.head.specs.Heads.{upFrom};
 ghost use Rattle.makeblock.specs.Asked.{limitsOf, eventOf};
 use head::Head;
 use layout::Event;
 use layout::Settings;
+use stdio::Amiss;
+use stdio::Listing;
 
 // The limits of the head's numbers: header, short, enable, room, and 35 that have none.
 fn limits() -> [u32; 39]
@@ -79,7 +82,7 @@ fn put_words(out: &mut [u8], at: usize, words: [u32; 64], room: usize) -> usize
 }
 
 // Puts the two lines of a head.
-fn put_block(out: &mut [u8], head: Head) -> usize {
+fn put_block(out: &mut [u8], first: Listing, head: Head) -> Listing {
     let settings = Settings {
         header: head.values[0] == 1,
         short: head.values[1] == 1,
@@ -90,22 +93,35 @@ fn put_block(out: &mut [u8], head: Head) -> usize {
     let answer = layout::write_event(settings, event_of(head), &mut words[..room]);
     let reply = layout::numbered(answer);
     let at = text::put_line(out, 0, &[reply.number as u64, reply.value as u64]);
-    put_words(out, at, words, room)
+    let mut l = first;
+    l.at = put_words(out, at, words, room);
+    if reply.number != 0 {
+        return stdio::stop(l, Amiss::Refused(reply.number, 0));
+    }
+    l
 }
 
-// What is written; a refused head is its fault line alone.
-fn run(buf: &mut [u8], out: &mut [u8]) {
-    let limits = limits();
-    let first = head::begin(buf, &limits);
+// What is written behind the listing's beginning; a refused head is its fault line alone.
+fn write(buf: &[u8], out: &mut [u8], first: Listing, limits: [u32; 39]) -> Listing
+    requires { ⌜ first .have ≤ length (now buf) ⌝ }
+{
+    if !first.more {
+        return first;
+    }
     let have = first.have;
     let head = head::read_head(&buf[..have], &limits);
     if head.answer == 0 {
-        let at = put_block(out, head);
-        stdio::flush(out, at);
-        return;
+        return put_block(out, first, head);
     }
-    let at = text::put_fault(out, 0, head.answer, 0);
-    stdio::flush(out, at);
+    stdio::fault(out, first, head.answer)
+}
+
+// What is written.
+fn run(buf: &mut [u8], out: &mut [u8]) {
+    let limits = limits();
+    let first = head::begin(buf, &limits);
+    let last = write(buf, out, first, limits);
+    stdio::close(out, last);
 }
 
 // The two buffers, of 64 KiB each.

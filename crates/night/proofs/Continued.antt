@@ -23,7 +23,7 @@ use Rattle.benchlog.proofs.Stays.{entry-stays, fault-stays}
 use Rattle.meb.specs.Ring.{Memory}
 use Rattle.night.specs.declared.Night.{Night}
 use Rattle.night.specs.declared.Next.{Next}
-use Rattle.night.specs.declared.Next.the-variants.{Lines, Bytes, Nothing, Refused}
+use Rattle.night.specs.declared.Next.the-variants.{Lines, Bytes, Nothing, Faulted, Refused}
 use Rattle.night.specs.Lines.{Line, onward, stepped, takenOf, lineOf}
 use Rattle.night.specs.Runs.{Run, before, stoppedAt, onReading, runOf, linesOf}
 
@@ -32,6 +32,7 @@ abbrev pub following : Next → List Line → List Line
 following Lines ls = ls
 following Bytes ls = ls
 following Nothing ls = []
+following (Faulted number) ls = []
 following (Refused why) ls = []
 
 -- a run's lines, then those of the bytes that it left and of those behind them

@@ -19,7 +19,7 @@ use Rattle.meb.specs.Ring.{Memory}
 use Rattle.v830.specs.Calls.{gateOf}
 use Rattle.night.specs.declared.Night.{Night}
 use Rattle.night.specs.declared.Next.{Next}
-use Rattle.night.specs.declared.Next.the-variants.{Lines, Bytes, Nothing, Refused}
+use Rattle.night.specs.declared.Next.the-variants.{Lines, Bytes, Nothing, Faulted, Refused}
 use Rattle.night.specs.Lines.{Line, onward, stepped}
 use Rattle.night.specs.Runs.{Run, onReading, runOf, runFor}
 use Rattle.night.specs.Streams.{Turn, Streamed, turned, streamed, allBytes, Asking}
@@ -31,6 +31,7 @@ abbrev UnlessOver : Next → Type 0 → Type 0
 UnlessOver Lines P = P
 UnlessOver Bytes P = P
 UnlessOver Nothing P = Unit {0}
+UnlessOver (Faulted number) P = Unit {0}
 UnlessOver (Refused why) P = ⊥
 
 -- a run says what comes next
@@ -41,6 +42,7 @@ always : (x : Next) (P : Type 0) → NotRefused x → P → UnlessOver x P
 always Lines P r p = p
 always Bytes P r p = p
 always Nothing P r p = tt
+always (Faulted number) P r p = tt
 always (Refused why) P r p = r
 
 reading-next : (last : Bool) (bytes : List ℕ) (n : Night) (memory : Memory) (f : Night → Memory → List ℕ → Run)
@@ -85,6 +87,7 @@ turned-over : (x : Next) (ls : List Line) (rest : Streamed) (P : Type 0) → Unl
 turned-over Lines ls rest P p h = h p
 turned-over Bytes ls rest P p h = h p
 turned-over Nothing ls rest P p h = refl
+turned-over (Faulted number) ls rest P p h = refl
 turned-over (Refused why) ls rest P p h = absurd p
 
 drained : (ts : List Turn) (n : Night) (memory : Memory) (held : List ℕ) → gateOf (n .v830) memory ≡ Done 0 → Asking ts

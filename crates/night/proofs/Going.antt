@@ -25,7 +25,7 @@ use Rattle.text.proofs.Decimal.{length-line}
 use Rattle.text.proofs.Putting.{put-nil, put-more, length-put}
 use Rattle.v830.specs.Calls.{gateOf}
 use Rattle.night.specs.declared.Next.{Next}
-use Rattle.night.specs.declared.Next.the-variants.{Lines, Bytes, Nothing}
+use Rattle.night.specs.declared.Next.the-variants.{Lines, Bytes, Nothing, Faulted}
 use Rattle.night.specs.declared.Night.{Night}
 use Rattle.night.specs.declared.Part.{Part}
 use Rattle.night.specs.declared.Taken.{Taken}
@@ -52,13 +52,13 @@ nothing-put used at n next memory out h =
 -- a run that ends with the line of a fault puts it
 pub fault-put : (used at number place : ℕ) (n : Night) (memory : Memory) (out out₁ : List ℕ) (end : ℕ) → at + 48 ≤ length out
     → end ≡ afterIn 48 out at (faultLine number place) → out₁ ≡ putIn 48 out at (faultLine number place)
-    → _≡_ {A = Part} (record { night = n; used = used; at = end; next = Nothing }) (partBehind used at (endsHere (Faulty number place ∷ []) Nothing n memory))
+    → _≡_ {A = Part} (record { night = n; used = used; at = end; next = Faulted number }) (partBehind used at (endsHere (Faulty number place ∷ []) (Faulted number) n memory))
     × (out₁ ≡ put out at (text (Faulty number place ∷ [])))
 unfolding text
 fault-put used at number place n memory out out₁ end h e f =
     let t : leb (at + 48) (length out) ≡ true = le-leb (at + 48) (length out) h in
     let one : faultLine number place ++ [] ≡ faultLine number place = append-nil (faultLine number place) in (
-      ap₂ (λ (u a : ℕ). record { night = n; used = u; at = a; next = Nothing }) (omega arith)
+      ap₂ (λ (u a : ℕ). record { night = n; used = u; at = a; next = Faulted number }) (omega arith)
           (e ∙ ap (λ (b : Bool). cond b (at + length (faultLine number place)) at) t ∙ ap (λ (ws : List ℕ). at + length ws) (sym one)),
       f ∙ ap (λ (b : Bool). cond b (put out at (faultLine number place)) out) t ∙ ap (put out at) (sym one),
     )
@@ -74,11 +74,11 @@ text-cons l ls = length-append (textOf l) (text ls)
 
 -- what holds of the three ways in which a run stops holds of the one that the tests pick
 module _ (P : Run → Type 0) (last : Bool) (bytes : List ℕ) (fault : Fault) (n : Night) (memory : Memory) where
-  stopped : P (endsHere [] Bytes n memory) → P (endsHere [] Nothing n memory) → P (endsHere (Faulty (faultNumber fault) (n .place) ∷ []) Nothing n memory)
+  stopped : P (endsHere [] Bytes n memory) → P (endsHere [] Nothing n memory) → P (endsHere (Faulty (faultNumber fault) (n .place) ∷ []) (Faulted (faultNumber fault)) n memory)
       → P (stoppedAt last bytes fault n memory)
   stopped p q r = go (not last && eqb (faultNumber fault) (faultNumber Ends)) (eqb (length bytes) 0)
     where
-      go : (a b : Bool) → P (cond a (endsHere [] Bytes n memory) (cond b (endsHere [] Nothing n memory) (endsHere (Faulty (faultNumber fault) (n .place) ∷ []) Nothing n memory)))
+      go : (a b : Bool) → P (cond a (endsHere [] Bytes n memory) (cond b (endsHere [] Nothing n memory) (endsHere (Faulty (faultNumber fault) (n .place) ∷ []) (Faulted (faultNumber fault)) n memory)))
       go true b = p
       go false true = q
       go false false = r
@@ -98,8 +98,8 @@ module _ (last : Bool) (bytes : List ℕ) (fault : Fault) (n : Night) where
   same-but-memory m₁ m₂ = go (not last && eqb (faultNumber fault) (faultNumber Ends)) (eqb (length bytes) 0)
     where
       go : (a b : Bool)
-          → lendsTo m₂ (cond a (endsHere [] Bytes n m₁) (cond b (endsHere [] Nothing n m₁) (endsHere (Faulty (faultNumber fault) (n .place) ∷ []) Nothing n m₁)))
-          ≡ cond a (endsHere [] Bytes n m₂) (cond b (endsHere [] Nothing n m₂) (endsHere (Faulty (faultNumber fault) (n .place) ∷ []) Nothing n m₂))
+          → lendsTo m₂ (cond a (endsHere [] Bytes n m₁) (cond b (endsHere [] Nothing n m₁) (endsHere (Faulty (faultNumber fault) (n .place) ∷ []) (Faulted (faultNumber fault)) n m₁)))
+          ≡ cond a (endsHere [] Bytes n m₂) (cond b (endsHere [] Nothing n m₂) (endsHere (Faulty (faultNumber fault) (n .place) ∷ []) (Faulted (faultNumber fault)) n m₂))
       go true b = refl
       go false true = refl
       go false false = refl

@@ -13,7 +13,7 @@ use Rattle.meb.specs.Ring.{Memory}
 use Rattle.v830.specs.Calls.{gateOf}
 use Rattle.night.specs.declared.Night.{Night}
 use Rattle.night.specs.declared.Next.{Next}
-use Rattle.night.specs.declared.Next.the-variants.{Lines, Bytes, Nothing, Refused}
+use Rattle.night.specs.declared.Next.the-variants.{Lines, Bytes, Nothing, Faulted, Refused}
 use Rattle.night.specs.Lines.{Line, Heading, begunAt}
 use Rattle.night.specs.Runs.{Run, endsHere, runOf, runFor, linesOf, freshWords, listing}
 use Rattle.night.specs.Streams.{Turn, Streamed, turned, streamed, allBytes, Fed}
@@ -26,6 +26,7 @@ turned-lines : (x : Next) (ls : List Line) (rest : Streamed) (behind : List Line
 turned-lines Lines ls rest behind h o = ap (λ (l : List Line). ls ++ l) (h o)
 turned-lines Bytes ls rest behind h o = ap (λ (l : List Line). ls ++ l) (h o)
 turned-lines Nothing ls rest behind h o = sym (append-nil ls)
+turned-lines (Faulted number) ls rest behind h o = sym (append-nil ls)
 turned-lines (Refused why) ls rest behind h o = absurd (false≢true o)
 
 -- what a run and the turns behind it show

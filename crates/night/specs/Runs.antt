@@ -13,7 +13,7 @@ use Rattle.benchlog.specs.Entries.{entryAt}
 use Rattle.benchlog.specs.Faults.{faultNumber}
 use Rattle.night.specs.declared.Night.{Night}
 use Rattle.night.specs.declared.Next.{Next}
-use Rattle.night.specs.declared.Next.the-variants.{Lines, Bytes, Nothing, Refused}
+use Rattle.night.specs.declared.Next.the-variants.{Lines, Bytes, Nothing, Faulted, Refused}
 use Rattle.night.specs.declared.Part.{Part}
 use Rattle.bus.specs.Answers.{isDone}
 use Rattle.meb.specs.Ring.{Memory, lent}
@@ -21,7 +21,7 @@ use Rattle.v830.specs.Calls.{gateOf}
 use Rattle.night.specs.Lines.{Line, Heading, text, Faulty, begunAt, stepped, onward, takenOf, lineOf}
 
 -- a run: its lines, the bytes that they are of, the night and the lent words after them, and what comes next: further
--- lines, further bytes first, or nothing; or why nothing is run
+-- lines, further bytes first, or nothing, at the log's end or behind a fault; or why nothing is run
 pub record Run : Type 0 where
   pub lines : List Line
   pub used : ℕ
@@ -43,7 +43,7 @@ abbrev pub stoppedAt : Bool → List ℕ → Fault → Night → Memory → Run
 stoppedAt last bytes fault n memory =
     cond (not last && eqb (faultNumber fault) (faultNumber Ends)) (endsHere [] Bytes n memory)
     (cond (eqb (length bytes) 0) (endsHere [] Nothing n memory)
-    (endsHere (Faulty (faultNumber fault) (n .place) ∷ []) Nothing n memory))
+    (endsHere (Faulty (faultNumber fault) (n .place) ∷ []) (Faulted (faultNumber fault)) n memory))
 
 -- an entry is read, or none
 abbrev pub onReading : Bool → List ℕ → Night → Memory → Reading → (Night → Memory → List ℕ → Run) → Run

@@ -7,7 +7,7 @@ use lib.ListN.{length, drop}
 use Rattle.meb.specs.Ring.{Memory}
 use Rattle.night.specs.declared.Night.{Night}
 use Rattle.night.specs.declared.Next.{Next}
-use Rattle.night.specs.declared.Next.the-variants.{Lines, Bytes, Nothing, Refused}
+use Rattle.night.specs.declared.Next.the-variants.{Lines, Bytes, Nothing, Faulted, Refused}
 use Rattle.night.specs.Lines.{Line}
 use Rattle.night.specs.Runs.{Run, replayFor}
 
@@ -28,6 +28,7 @@ abbrev pub turned : Next → List Line → Streamed → Streamed
 turned Lines ls rest = record { lines = ls ++ rest .lines; over = rest .over }
 turned Bytes ls rest = record { lines = ls ++ rest .lines; over = rest .over }
 turned Nothing ls rest = record { lines = ls; over = true }
+turned (Faulted number) ls rest = record { lines = ls; over = true }
 turned (Refused why) ls rest = record { lines = ls; over = false }
 
 -- the turns of a night with these lent words, each of the bytes that the one before it left and those read on; `held`

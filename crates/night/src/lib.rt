@@ -41,11 +41,13 @@ pub struct Taken {
     pub value: u32,
 }
 
-// What comes next in a listing: further lines, or bytes of the log first, or nothing; or why nothing of it is run.
+// What comes next in a listing: further lines, or bytes of the log first; nothing, at the log's end or behind the line
+// of a fault, with its number; or why nothing of it is run.
 pub enum Next {
     Lines,
     Bytes,
     Nothing,
+    Faulted(u32),
     Refused(Answer),
 }
 
@@ -161,8 +163,9 @@ fn stop(
     if rest.len() == 0 {
         return here(night, used, at, Next::Nothing);
     }
-    let end = text::put_fault(out, at, benchlog::fault_number(fault), night.place);
-    here(night, used, end, Next::Nothing)
+    let number = benchlog::fault_number(fault);
+    let end = text::put_fault(out, at, number, night.place);
+    here(night, used, end, Next::Faulted(number))
 }
 
 // Whether an entry cannot be read only since the bytes at hand end before it does.

@@ -1,8 +1,9 @@
 -- Any two permitted results of a public function are equal, the new state and every lent word among them: of each
 -- function's contract, as the check reads it off the function's own clauses (`Post`). By `determined`, since each
--- contract is an equation with what a definition gives for the input. Not here, because they read from the system, of
--- which no equation can speak: `stdio::refill`, `stdio::read_on` and `head::begin` (docs/PROMISES.md says of each
--- what that leaves open). Assumes nothing.
+-- contract is an equation with what a definition gives for the input. Not here, because what they give depends on what
+-- the system reads or on whether it writes, of which no equation can speak: `stdio::refill`, `stdio::read_on`,
+-- `stdio::flush`, `stdio::make_room` and `head::begin` (docs/PROMISES.md says of each what that leaves open). Assumes
+-- nothing.
 use Prim.Native.Nat.{ℕ}
 use mathlib.Core.Path.{ap₂}
 use mathlib.Core.List.{List}
@@ -93,11 +94,13 @@ use Rattle.text.proofs.put_number.Reads as text-put-number
 use Rattle.text.proofs.figures.Reads as text-figures
 use Rattle.text.proofs.put_line.Reads as text-put-line
 use Rattle.text.proofs.put_fault.Reads as text-put-fault
+use Rattle.text.proofs.put_failed.Reads as text-put-failed
 use Rattle.stdio.proofs.begin.Reads as stdio-begin
 use Rattle.stdio.proofs.place.Reads as stdio-place
 use Rattle.stdio.proofs.end.Reads as stdio-end
-use Rattle.stdio.proofs.flush.Reads as stdio-flush
-use Rattle.stdio.proofs.make_room.Reads as stdio-make-room
+use Rattle.stdio.proofs.stop.Reads as stdio-stop
+use Rattle.stdio.proofs.fault.Reads as stdio-fault
+use Rattle.stdio.proofs.close.Reads as stdio-close
 
 -- ---- count
 pub one-count-tick : OneResult count-tick.Post
@@ -362,6 +365,9 @@ one-text-put-line κ given first second e d p q = (determined (p .0) (q .0), det
 pub one-text-put-fault : OneOutcome text-put-fault.Post (λ κ e. now (e .0))
 one-text-put-fault κ given first second e d p q = (determined (p .0) (q .0), determined (p .1) (q .1))
 
+pub one-text-put-failed : OneOutcome text-put-failed.Post (λ κ e. now (e .0))
+one-text-put-failed κ given first second e d p q = (determined (p .0) (q .0), determined (p .1) (q .1))
+
 -- ---- stdio
 pub one-stdio-begin : OneResult stdio-begin.Post
 one-stdio-begin κ given first second e d p q = determined p q
@@ -372,8 +378,11 @@ one-stdio-place κ given first second e d p q = determined p q
 pub one-stdio-end : OneOutcome stdio-end.Post (λ κ e. now (e .0))
 one-stdio-end κ given first second e d p q = (determined (p .0) (q .0), determined (p .1) (q .1))
 
-pub one-stdio-flush : OneResult stdio-flush.Post
-one-stdio-flush κ given first second e d p q = determined p q
+pub one-stdio-stop : OneResult stdio-stop.Post
+one-stdio-stop κ given first second e d p q = determined p q
 
-pub one-stdio-make-room : OneResult stdio-make-room.Post
-one-stdio-make-room κ given first second e d p q = determined p q
+pub one-stdio-fault : OneOutcome stdio-fault.Post (λ κ e. now (e .0))
+one-stdio-fault κ given first second e d p q = (determined (p .0) (q .0), determined (p .1) (q .1))
+
+pub one-stdio-close : OneContent stdio-close.Post (λ κ e. now (e .0))
+one-stdio-close κ given first second e d p q = determined p q

@@ -2,8 +2,10 @@
 ghost use mathlib.Core.Path.{_≡_};
 ghost use Prim.Native.Nat.{_≤_};
 ghost use lib.ListN.{length};
+use bus::Answer;
 use night::Next;
 use night::Night;
+use stdio::Amiss;
 use stdio::Listing;
 
 // A listing under way: where it stands in the buffers, and the night.
@@ -12,8 +14,22 @@ struct Course {
     night: Night,
 }
 
-// Goes on behind the part that was shown: reads on where it wants bytes, ends where nothing is next. A night that is
-// refused would end too; one that begins here never is (`begun-passes`, `run-keeps`).
+// Ends a listing whose last line is that of a fault.
+fn faulted(l: Listing, number: u32) -> Listing
+    ensures { λ r. ⌜ (r .used ≡ l .used) × (r .have ≡ l .have) ⌝ }
+{
+    stdio::stop(l, Amiss::Fault(number, stdio::place(l, l.used)))
+}
+
+// Ends a listing whose night is refused. One that begins here never is (`begun-passes`, `run-keeps`).
+fn refused(l: Listing, answer: Answer) -> Listing
+    ensures { λ r. ⌜ (r .used ≡ l .used) × (r .have ≡ l .have) ⌝ }
+{
+    let reply = bus::numbered(answer);
+    stdio::stop(l, Amiss::Refused(reply.number, stdio::place(l, l.used)))
+}
+
+// Goes on behind the part that was shown: reads on where it wants bytes, ends where nothing is next.
 fn gone_on(buf: &mut [u8], l: Listing, next: Next) -> Listing
     requires { ⌜ (l .used ≤ l .have) × (l .have ≤ length (now buf)) ⌝ }
     ensures { λ r. ⌜ (r .used ≤ r .have) × (r .have ≤ length (now (buf .entry))) ⌝ }
@@ -21,22 +37,9 @@ fn gone_on(buf: &mut [u8], l: Listing, next: Next) -> Listing
     match next {
         Next::Lines => l,
         Next::Bytes => stdio::read_on(buf, l),
-        Next::Nothing => ended(l),
-        Next::Refused(_) => ended(l),
-    }
-}
-
-// A listing that is at its end.
-fn ended(l: Listing) -> Listing
-    ensures { λ r. ⌜ (r .used ≡ l .used) × (r .have ≡ l .have) ⌝ }
-{
-    Listing {
-        used: l.used,
-        have: l.have,
-        ended: l.ended,
-        base: l.base,
-        at: l.at,
-        more: false,
+        Next::Nothing => stdio::stop(l, Amiss::Nothing),
+        Next::Faulted(number) => faulted(l, number),
+        Next::Refused(answer) => refused(l, answer),
     }
 }
 
@@ -50,12 +53,13 @@ fn turn(buf: &mut [u8], out: &mut [u8], memory: &mut [u32], course: Course) -> C
     let used = l.used;
     let have = l.have;
     let part = night::replay(night, memory, &buf[used..have], l.ended, out);
-    stdio::flush(out, part.at);
+    l.at = part.at;
     l.used = used + part.used;
+    let shown = stdio::flush(out, l);
     let next = part.next;
     let after = part.night;
     Course {
-        listing: gone_on(buf, l, next),
+        listing: gone_on(buf, shown, next),
         night: after,
     }
 }
@@ -63,16 +67,18 @@ fn turn(buf: &mut [u8], out: &mut [u8], memory: &mut [u32], course: Course) -> C
 // The whole listing.
 fn run(buf: &mut [u8], out: &mut [u8], memory: &mut [u32]) {
     let at = night::put_heading(out, 0);
-    stdio::flush(out, at);
+    let first = stdio::flush(out, stdio::begin(at));
     let mut course = Course {
-        listing: stdio::begin(0),
+        listing: first,
         night: night::begin(memory),
     };
-    let mut turns = u64::MAX;
+    let mut turns = stdio::TURNS;
     while turns > 0 && course.listing.more {
         course = turn(buf, out, memory, course);
         turns -= 1;
     }
+    let last = course.listing;
+    stdio::close(out, last);
 }
 
 // The two buffers, of 64 KiB for the log and 256 KiB for the listing, and the 16,384 words of the event memory.

@@ -2,23 +2,47 @@
 ghost use mathlib.Core.Path.{_≡_};
 ghost use Prim.Native.Nat.{_+_, _≤_};
 ghost use lib.ListN.{length, take, drop};
-ghost use Rattle.stdio.specs.Window.{Refilled, roomAt};
+ghost use Rattle.stdio.specs.Window.{Refilled, Left};
+use words::failed;
 
 mod course;
+mod words;
 
 pub use course::begin;
+pub use course::close;
 pub use course::end;
+pub use course::fault;
+pub use course::flush;
+pub use course::make_room;
 pub use course::place;
 pub use course::read_on;
+pub use course::stop;
 
-// How many bytes at the front of a buffer are the input's, and whether the input has ended.
+// The most turns of a program's loop, for the proof that it ends: nothing says that an input does. Each turn shows
+// something, reads on or ends the listing, so at a thousand million turns a second they last for five hundred years.
+pub const TURNS: u64 = 18446744073709551615;
+
+// What is amiss with a listing: nothing; it ends in a fault, with its number and the byte, or in an event that is
+// refused, with its number and the word; a case is wrong at a step; a read or a write failed, with the system's
+// number.
+pub enum Amiss {
+    Nothing,
+    Fault(u32, u64),
+    Refused(u32, u64),
+    Wrong(u64, u64),
+    Read(u32),
+    Write(u32),
+}
+
+// How many bytes at the front of a buffer are the input's, whether the input has ended, and whether the read failed.
 pub struct Window {
     pub have: usize,
     pub ended: bool,
+    pub amiss: Amiss,
 }
 
-// A listing under way: the bytes of the input buffer used and had, whether the input has ended, the
-// input's place at which that buffer begins, the output buffer's place, and whether it goes on.
+// A listing under way: the bytes of the input buffer used and had, whether the input has ended, the input's place at
+// which that buffer begins, the output buffer's place, whether it goes on, and what is amiss with it.
 pub struct Listing {
     pub used: usize,
     pub have: usize,
@@ -26,6 +50,7 @@ pub struct Listing {
     pub base: u64,
     pub at: usize,
     pub more: bool,
+    pub amiss: Amiss,
 }
 
 // Moves the bytes from `used` up to `have` to the front and reads more of standard input behind them.
@@ -35,6 +60,7 @@ pub fn refill(buf: &mut [u8], used: usize, have: usize) -> Window
     let nothing = Window {
         have: 0,
         ended: true,
+        amiss: Amiss::Nothing,
     };
     if used > have {
         return nothing;
@@ -45,32 +71,27 @@ pub fn refill(buf: &mut [u8], used: usize, have: usize) -> Window
     let left = have - used;
     shift(buf, used, left);
     let got = libc::read(0, &mut buf[left..]);
+    if got < 0 {
+        return unread(left);
+    }
     let n = io::count(got, &buf[left..]);
     let total = left + n;
     Window {
         have: total,
         ended: n == 0,
+        amiss: Amiss::Nothing,
     }
 }
 
-// Writes the first `at` bytes to standard output and answers the place from which the buffer is free.
-pub fn flush(out: &[u8], at: usize) -> usize
-    ensures { λ r. ⌜ r ≡ 0 ⌝ }
+// What a read that failed leaves: the `left` bytes that were there.
+fn unread(left: usize) -> Window
+    ensures { λ r. ⌜ (r .have ≡ left) × Left left r (r .amiss) ⌝ }
 {
-    if at <= out.len() {
-        io::write_all(1, &out[..at]);
+    Window {
+        have: left,
+        ended: false,
+        amiss: Amiss::Read(failed(b"failed read ")),
     }
-    0
-}
-
-// The place at which `want` bytes more can be put: `at`, or 0 after what stands before it is written.
-pub fn make_room(out: &[u8], at: usize, want: usize) -> usize
-    ensures { λ r. ⌜ r ≡ roomAt (length (now (out .entry))) at want ⌝ }
-{
-    if text::fits(out, at, want) {
-        return at;
-    }
-    flush(out, at)
 }
 
 // Moves the `left` bytes from `used` on to the front.

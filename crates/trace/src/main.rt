@@ -13,12 +13,13 @@ use columns::numbers_830;
 use head::Head;
 use modules::Held;
 use modules::Which;
+use stdio::Amiss;
 use stdio::Listing;
 
 mod columns;
 
-// No limits, for the longest head, which has 35 numbers.
-const ANY: [u32; 35] = [4294967295; 35];
+// No limit, for the number that names the module.
+const ANY: [u32; 1] = [4294967295];
 
 // A listing under way: where it stands, the module, and how many entries it has shown.
 struct Course {
@@ -60,7 +61,7 @@ fn limits_830() -> [u32; 35]
 fn head_in(input: &[u8]) -> Head
     ensures { λ r. ⌜ r ≡ headIn (now (input .entry)) ⌝ }
 {
-    let name = head::read_head(input, &ANY[..1]);
+    let name = head::read_head(input, &ANY);
     if name.answer != 0 {
         return name;
     }
@@ -105,8 +106,7 @@ fn put_names(out: &mut [u8], which: Which) -> usize {
 }
 
 // Puts the line of what the module holds after an entry.
-fn put_held(out: &mut [u8], at: usize, entry: u64, traced: Held) -> usize {
-    let room = stdio::make_room(out, at, 903);
+fn put_held(out: &mut [u8], room: usize, entry: u64, traced: Held) -> usize {
     let which = traced.which;
     match which {
         Which::V260 => {
@@ -125,31 +125,49 @@ fn put_held(out: &mut [u8], at: usize, entry: u64, traced: Held) -> usize {
 }
 
 // Puts a word of the memory after a blank.
-fn put_word(out: &mut [u8], at: usize, word: u32) -> usize {
-    let room = stdio::make_room(out, at, 11);
-    let p = text::put_text(out, room, b" ");
-    text::put_number(out, p, word as u64)
+fn put_word(out: &mut [u8], before: Listing, word: u32) -> Listing {
+    let mut l = stdio::make_room(out, before, 11);
+    let p = text::put_text(out, l.at, b" ");
+    l.at = text::put_number(out, p, word as u64);
+    l
+}
+
+// Puts a text.
+fn put_text(out: &mut [u8], before: Listing, words: &[u8]) -> Listing {
+    let mut l = stdio::make_room(out, before, words.len());
+    l.at = text::put_text(out, l.at, words);
+    l
 }
 
 // Puts the line of every lent word.
-fn put_memory(out: &mut [u8], at: usize, memory: &[u32]) -> usize {
-    let room = stdio::make_room(out, at, 6);
-    let mut p = text::put_text(out, room, b"memory");
+fn put_memory(out: &mut [u8], before: Listing, memory: &[u32]) -> Listing {
+    let mut l = put_text(out, before, b"memory");
     let mut k: usize = 0;
     while k < memory.len() {
-        p = put_word(out, p, memory[k]);
+        l = put_word(out, l, memory[k]);
         k += 1;
     }
-    let last = stdio::make_room(out, p, 1);
-    text::put_text(out, last, b"\n")
+    put_text(out, l, b"\n")
 }
 
-// Puts what comes after the last line: the memory of a V830.
-fn put_last(out: &mut [u8], at: usize, which: Which, memory: &[u32]) -> usize {
+// Puts what comes after the last line: the memory of a V830, unless the listing is cut by a read that failed.
+fn put_last(out: &mut [u8], l: Listing, which: Which, memory: &[u32]) -> Listing {
+    if is_cut(l) {
+        return l;
+    }
     match which {
-        Which::V260 => at,
-        Which::V560 => at,
-        Which::V830 => put_memory(out, at, memory),
+        Which::V260 => l,
+        Which::V560 => l,
+        Which::V830 => put_memory(out, l, memory),
+    }
+}
+
+// Whether a read failed.
+fn is_cut(l: Listing) -> bool {
+    let amiss = l.amiss;
+    match amiss {
+        Amiss::Read(_) => true,
+        _ => false,
     }
 }
 
@@ -183,18 +201,20 @@ fn moved(course: Course, listing: Listing) -> Course
 }
 
 // Shows the entry that comes next, or reads on, or ends the listing.
-fn turn(buf: &mut [u8], out: &mut [u8], memory: &mut [u32], course: Course) -> Course
-    requires { ⌜ course .listing .have ≤ length (now buf) ⌝ }
+fn turn(buf: &mut [u8], out: &mut [u8], memory: &mut [u32], before: Course) -> Course
+    requires { ⌜ before .listing .have ≤ length (now buf) ⌝ }
     ensures { λ r. ⌜ r .listing .have ≤ length (now (buf .entry)) ⌝ }
 {
-    let l = course.listing;
+    let listing = before.listing;
+    let l = stdio::make_room(out, listing, 903);
+    let course = moved(before, l);
     let have = l.have;
     match benchlog::read_entry(&buf[..have], l.used) {
         Reading::Entry(entry, next) => shown(out, memory, course, entry, next),
         Reading::Refused(fault, _) => {
             let number = benchlog::fault_number(fault);
             if !l.ended && number == benchlog::fault_number(Fault::Ends) {
-                return moved(course, stdio::read_on(buf, l));
+                return moved(course, stdio::read_on(buf, stdio::flush(out, l)));
             }
             moved(course, stdio::end(out, l, number))
         }
@@ -202,7 +222,13 @@ fn turn(buf: &mut [u8], out: &mut [u8], memory: &mut [u32], course: Course) -> C
 }
 
 // Shows the start and each entry behind a head.
-fn list_entries(buf: &mut [u8], out: &mut [u8], memory: &mut [u32], first: Listing, head: Head)
+fn list_entries(
+    buf: &mut [u8],
+    out: &mut [u8],
+    memory: &mut [u32],
+    first: Listing,
+    head: Head,
+) -> Listing
     requires { ⌜ first .have ≤ length (now buf) ⌝ }
 {
     let values = head.values;
@@ -217,13 +243,13 @@ fn list_entries(buf: &mut [u8], out: &mut [u8], memory: &mut [u32], first: Listi
         traced,
         entries: 0,
     };
-    let mut turns = u64::MAX;
+    let mut turns = stdio::TURNS;
     while turns > 0 && course.listing.more {
         course = turn(buf, out, memory, course);
         turns -= 1;
     }
-    let last = put_last(out, course.listing.at, which, memory);
-    stdio::flush(out, last);
+    let listed = course.listing;
+    put_last(out, listed, which, memory)
 }
 
 // The module that a head names.
@@ -239,19 +265,50 @@ fn which_of(name: u32) -> Which
     Which::V830
 }
 
-// The whole listing; a refused head is its fault line alone.
-fn run(buf: &mut [u8], out: &mut [u8], memory: &mut [u32]) {
-    let first = head::begin(buf, &ANY);
+// The listing behind its beginning; a refused head is its fault line alone.
+fn list(buf: &mut [u8], out: &mut [u8], memory: &mut [u32], first: Listing) -> Listing
+    requires { ⌜ first .have ≤ length (now buf) ⌝ }
+{
+    if !first.more {
+        return first;
+    }
     let have = first.have;
     let head = head_in(&buf[..have]);
     if head.answer == 0 {
         let values = head.values;
         let end = modules::lent(which_of(values[0]), values, memory.len());
-        list_entries(buf, out, &mut memory[..end], first, head);
-        return;
+        return list_entries(buf, out, &mut memory[..end], first, head);
     }
-    let at = text::put_fault(out, 0, head.answer, 0);
-    stdio::flush(out, at);
+    stdio::fault(out, first, head.answer)
+}
+
+// Whether the bytes that are read end inside the head.
+fn ends_in_head(buf: &[u8], l: Listing) -> bool
+    requires { ⌜ l .have ≤ length (now buf) ⌝ }
+{
+    let have = l.have;
+    let head = head_in(&buf[..have]);
+    head.answer == benchlog::fault_number(Fault::Ends)
+}
+
+// Begins the listing: reads on until the head is whole or refused, or the input has ended, or a read fails.
+fn begun(buf: &mut [u8]) -> Listing
+    ensures { λ r. ⌜ r .have ≤ length (now (buf .entry)) ⌝ }
+{
+    let mut l = stdio::begin(0);
+    let mut turns = stdio::TURNS;
+    while turns > 0 && l.more && !l.ended && ends_in_head(buf, l) {
+        l = stdio::read_on(buf, l);
+        turns -= 1;
+    }
+    l
+}
+
+// The whole listing.
+fn run(buf: &mut [u8], out: &mut [u8], memory: &mut [u32]) {
+    let first = begun(buf);
+    let last = list(buf, out, memory, first);
+    stdio::close(out, last);
 }
 
 // Sets the words to 1, 2, 3 and so on.

@@ -7,10 +7,10 @@ use Rattle.cases.proofs.run.Statement.{statement}
 use Rattle.cases.proofs.run.Tie as tie
 
 abbrev Inv-loop : tie.InvT-loop
-Inv-loop out₀ cases at₀ k₀ out at k = (k ≤ 9) × (length out ≡ length out₀)
+Inv-loop out₀ cases l₀ k₀ out l k = (k ≤ 9) × (length out ≡ length out₀)
 
 abbrev μ-loop : tie.MeasureT-loop
-μ-loop out₀ cases at₀ k₀ out at k = 9 - k
+μ-loop out₀ cases l₀ k₀ out l k = 9 - k
 
 marked-requires : tie.Need-marked-requires Inv-loop μ-loop
 marked-requires c κs = search needs
@@ -20,6 +20,9 @@ slice-aggregate-put-text c = search needs
 
 put-text-requires : tie.Need-put-text-requires Inv-loop μ-loop
 put-text-requires c κs = search needs
+
+begin-requires : tie.Need-begin-requires Inv-loop μ-loop
+begin-requires c κs = search needs
 
 loop-holds : tie.Need-loop-holds Inv-loop μ-loop
 loop-holds c = search needs
@@ -45,8 +48,8 @@ loop-less c = search needs
 loop-again : tie.Need-loop-again Inv-loop μ-loop
 loop-again c = search needs
 
-flush-requires : tie.Need-flush-requires Inv-loop μ-loop
-flush-requires c κs = search needs
+close-requires : tie.Need-close-requires Inv-loop μ-loop
+close-requires c κs = search needs
 
 same-length : tie.Need-same-length Inv-loop μ-loop
 same-length c = search needs
@@ -63,6 +66,7 @@ run-spec =
     marked-requires
     slice-aggregate-put-text
     put-text-requires
+    begin-requires
     loop-holds
     add-put-case
     mul-put-case
@@ -71,6 +75,6 @@ run-spec =
     add-k
     loop-less
     loop-again
-    flush-requires
+    close-requires
     same-length
     returns)

@@ -1,5 +1,5 @@
--- The output buffer keeps its length. Assumes nothing.
-use mathlib.Core.Path.{_≡_}
+-- The output buffer keeps its length, and the listing what is had of the input. Assumes nothing.
+use mathlib.Core.Path.{_≡_, _∙_}
 use Prim.Native.Nat.{_-_, _+_}
 use lib.ListN.{length}
 use borrow.Author.Needs.{needs}
@@ -7,10 +7,10 @@ use Rattle.logcases.proofs.put_case.Statement.{statement}
 use Rattle.logcases.proofs.put_case.Tie as tie
 
 abbrev Inv-loop : tie.InvT-loop
-Inv-loop log start out₀ at place₀ p₀ answer₀ i₀ out place p answer i = length out ≡ length out₀
+Inv-loop log start out₀ place₀ l₀ answer₀ i₀ out place l answer i = (length out ≡ length out₀) × (l .have ≡ l₀ .have)
 
 abbrev μ-loop : tie.MeasureT-loop
-μ-loop log start out₀ at place₀ p₀ answer₀ i₀ out place p answer i = length log + 1 - i
+μ-loop log start out₀ place₀ l₀ answer₀ i₀ out place l answer i = length log + 1 - i
 
 loop-holds : tie.Need-loop-holds Inv-loop μ-loop
 loop-holds c = search needs
@@ -37,7 +37,7 @@ loop-less : tie.Need-loop-less Inv-loop μ-loop
 loop-less c = search needs
 
 loop-again : tie.Need-loop-again Inv-loop μ-loop
-loop-again c = search needs
+loop-again c = (search needs, c .before .before .put-call .ensures ∙ c .before .before .before .before .before .before .before .before .before .before .loop .inv .1)
 
 same-length : tie.Need-same-length Inv-loop μ-loop
 same-length c = search needs

@@ -1,4 +1,5 @@
--- The three ways in which a run stops, by its two tests; what is put is nothing or the line of the fault. Assumes nothing.
+-- The three ways in which a run stops, by its two tests; what is put is nothing or the line of the fault. Assumes
+-- nothing.
 use mathlib.Core.Path.{sym, _∙_}
 use mathlib.Core.List.{[]}
 use native.Mathlib.Omega.{arith}
@@ -52,8 +53,8 @@ returns-3 c =
     let b = f .before .before .before in
     let a = c .before .before .before .before .before .before .before .before .before .before .before .args in
     let e = sym (b .before .before .wants-bytes .ensures) ∙ b .before .if1 .left in
-    let k = f .before .fault-number .ensures in
-    let p = fault-put (a .used) (a .at) (f .before .fault-number .result) (a .night .place) (a .night) (lent []) (now (a .out)) (f .put-fault .last .0) (f .put-fault .result) (omega arith) (f .put-fault .ensures .0) (f .put-fault .ensures .1) in
+    let k = f .before .before .fault-number .ensures in
+    let p = fault-put (a .used) (a .at) (f .before .before .fault-number .result) (a .night .place) (a .night) (lent []) (now (a .out)) (f .put-fault .last .0) (f .put-fault .result) (omega arith) (f .put-fault .ensures .0) (f .put-fault .ensures .1) in
     rw (e, ne-eqb _ _ (b .if2 .left), ← k) (c .here3 .ensures ∙ p .0, p .1)
 
 pub stop-spec : {M : Type 1} → statement M

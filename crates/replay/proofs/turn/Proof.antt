@@ -6,12 +6,15 @@ use lib.ListN.{take, drop, length-drop}
 use lib.Seq.{length-take-le}
 use Rattle.meb.specs.Ring.{lent}
 use Rattle.night.proofs.Going.{part-used}
+use Rattle.stdio.proofs.Keeping.{written-same}
 use borrow.Author.Needs.{needs}
 use Rattle.replay.proofs.turn.Statement.{statement}
 use Rattle.replay.proofs.turn.Tie as tie
 
 -- the part uses no more than the buffer has left
-shown : (c : tie.After-replay) → c .before .before .before .before .before .before .before .before .before .before .args .course .listing .used + c .replay .result .used ≤ c .before .before .before .before .before .before .before .before .before .before .args .course .listing .have
+shown : (c : tie.After-replay)
+    → let l = c .before .before .before .before .before .before .before .before .before .before .args .course .listing in
+    l .used + c .replay .result .used ≤ l .have
 shown c =
     let a = c .before .before .before .before .before .before .before .before .before .before .args in
     let l = a .course .listing in
@@ -31,14 +34,20 @@ part-replay-end c = search needs
 replay-requires : tie.Need-replay-requires
 replay-requires c κs = search needs
 
+add-l : tie.Need-add-l
+add-l c = omega (arith, shown (c .before .before .before .before .before), c .before .before .before .before .before .before .before .before .before .before .before .before .before .before .before .pre .1, c .before .before .before .before .before .before .before .before .before .before .before .before .before .before .before .good .0)
+
 flush-requires : tie.Need-flush-requires
 flush-requires c κs = search needs
 
-add-l : tie.Need-add-l
-add-l c = omega (arith, shown (c .before .before .before .before .before .before .before), c .before .before .before .before .before .before .before .before .before .before .before .before .before .before .before .before .before .pre .1, c .before .before .before .before .before .before .before .before .before .before .before .before .before .before .before .before .before .good .0)
-
 gone-on-requires : tie.Need-gone-on-requires
-gone-on-requires c κs = (shown (c .before .before .before .before .before .before .before .before .before), c .before .before .before .before .before .before .before .before .before .before .before .before .before .before .before .before .before .before .before .pre .1)
+gone-on-requires c κs =
+    let f = c .before .before in
+    let r = f .before .before .before .before .before .before .before in
+    let s = r .before .before .before .before .before .before .before .before .before .before in
+    let l = f .flush .result in
+    let same = written-same (record { used = s .args .course .listing .used + r .replay .result .used; have = s .args .course .listing .have; ended = s .args .course .listing .ended; base = s .args .course .listing .base; at = r .replay .result .at; more = s .args .course .listing .more; amiss = s .args .course .listing .amiss }) l (l .amiss) (f .flush .ensures) in
+    (rw (same .0, same .1) (shown r), rw (same .1) (s .pre .1))
 
 same-length : tie.Need-same-length
 same-length c = search needs
@@ -60,8 +69,8 @@ turn-spec =
     part-replay-start
     part-replay-end
     replay-requires
-    flush-requires
     add-l
+    flush-requires
     gone-on-requires
     same-length
     same-length-2

@@ -35,6 +35,9 @@ part-read-end c = search needs
 read-requires : tie.Need-read-requires
 read-requires c κs = search needs
 
+unread-requires : tie.Need-unread-requires
+unread-requires c κs = search needs
+
 sub-count : tie.Need-sub-count
 sub-count c = search needs
 
@@ -55,18 +58,31 @@ same-length c = search needs
 
 returns-3 : tie.Need-returns-3
 returns-3 c =
-    let r = c .before .before .before .before .before in
+    let r = c .before .before .before .before in
     let s = r .before .before .before .before in
-    let moved = s .shift .last .0 in
     let a = s .before .before .before .before .before .args in
-    let left : ℕ = a .have - a .used in (
-      search needs,
-      rw (le-leb (a .used) (a .have) (omega arith), le-leb (a .have) (length (a .buf .now)) (omega arith)) (
-        omega arith,
-        take-put left (length moved - left) moved (r .read .last .1 .0) (omega (arith, s .shift .kept .0)) ∙ s .shift .ensures,
-        nothing-read left (c .count .result),
-      ),
+    let moved = s .shift .last .0 in
+    let left : ℕ = a .have - a .used in
+    let front = take-put left (length moved - left) moved (r .read .last .1 .0) (omega (arith, s .shift .kept .0)) ∙ s .shift .ensures in
+    let h = c .unread .ensures .0 in (
+      omega (arith, h),
+      rw (le-leb (a .used) (a .have) (omega arith), le-leb (a .have) (length (a .buf .now)) (omega arith)) (omega (arith, h), front, c .unread .ensures .1),
     )
+
+returns-4 : tie.Need-returns-4
+returns-4 c =
+    let r = c .before .before .before .before .before .before in
+    let s = r .before .before .before .before in
+    let a = s .before .before .before .before .before .args in
+    let moved = s .shift .last .0 in
+    let left : ℕ = a .have - a .used in
+    let front = take-put left (length moved - left) moved (r .read .last .1 .0) (omega (arith, s .shift .kept .0)) ∙ s .shift .ensures in (
+      search needs,
+      rw (le-leb (a .used) (a .have) (omega arith), le-leb (a .have) (length (a .buf .now)) (omega arith)) (omega arith, front, nothing-read left (c .count .result)),
+    )
+
+same-length-2 : tie.Need-same-length-2
+same-length-2 c = search needs
 
 pub refill-spec : {M : Type 1} → statement M
 refill-spec =
@@ -79,10 +95,13 @@ refill-spec =
     part-read-start
     part-read-end
     read-requires
+    unread-requires
+    same-length
+    returns-3
     sub-count
     part-count-start
     part-count-end
     count-requires
     add-total
-    same-length
-    returns-3)
+    same-length-2
+    returns-4)

@@ -1,6 +1,4 @@
 -- One digit is put as it is, more by their own function. Assumes nothing.
-use mathlib.Core.List.{List}
-use denote.Ref.{now}
 use borrow.Author.Needs.{needs}
 use Rattle.text.proofs.Decimal.{decimal-one}
 use Rattle.text.proofs.put_number.Statement.{statement}

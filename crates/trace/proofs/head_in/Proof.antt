@@ -4,9 +4,6 @@ use borrow.Author.Needs.{needs}
 use Rattle.trace.proofs.head_in.Statement.{statement}
 use Rattle.trace.proofs.head_in.Tie as tie
 
-array-share-prefix-read-head : tie.Need-array-share-prefix-read-head
-array-share-prefix-read-head c = search needs
-
 slice-aggregate-read-head : tie.Need-slice-aggregate-read-head
 slice-aggregate-read-head c = search needs
 
@@ -88,7 +85,6 @@ pub head-in-spec : {M : Type 1} → statement M
 head-in-spec =
     tie.close
     (tie.spec
-    array-share-prefix-read-head
     slice-aggregate-read-head
     read-head-requires
     returns

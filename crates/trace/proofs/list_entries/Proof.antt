@@ -1,4 +1,5 @@
--- The buffers and the memory keep their lengths, and what is had of the input lies within its buffer; the measure is a count of turns. Assumes nothing.
+-- The buffers keep their lengths, and what is had of the input lies within its buffer; the measure is a count of
+-- turns. Assumes nothing.
 use mathlib.Core.Path.{_≡_}
 use Prim.Native.Nat.{_≤_}
 use lib.ListN.{length}
@@ -45,9 +46,6 @@ loop-again c = search needs
 put-last-requires : tie.Need-put-last-requires Inv-loop μ-loop
 put-last-requires c κs = search needs
 
-flush-requires : tie.Need-flush-requires Inv-loop μ-loop
-flush-requires c κs = search needs
-
 same-length : tie.Need-same-length Inv-loop μ-loop
 same-length c = search needs
 
@@ -77,7 +75,6 @@ list-entries-spec =
     loop-less
     loop-again
     put-last-requires
-    flush-requires
     same-length
     same-length-2
     same-length-3

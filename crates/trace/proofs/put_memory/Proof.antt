@@ -1,4 +1,4 @@
--- The output buffer keeps its length. Assumes nothing.
+-- The output buffer keeps its length; the measure is the words that are left. Assumes nothing.
 use mathlib.Core.Path.{_≡_}
 use Prim.Native.Nat.{_-_, _≤_}
 use lib.ListN.{length}
@@ -7,13 +7,10 @@ use Rattle.trace.proofs.put_memory.Statement.{statement}
 use Rattle.trace.proofs.put_memory.Tie as tie
 
 abbrev Inv-loop : tie.InvT-loop
-Inv-loop out₀ at memory room p₀ k₀ t9 out p k = (k ≤ length memory) × (length out ≡ length out₀)
+Inv-loop out₀ memory l₀ k₀ t7 out l k = (k ≤ length memory) × (length out ≡ length out₀)
 
 abbrev μ-loop : tie.MeasureT-loop
-μ-loop out₀ at memory room p₀ k₀ t9 out p k = length memory - k
-
-make-room-requires : tie.Need-make-room-requires Inv-loop μ-loop
-make-room-requires c κs = search needs
+μ-loop out₀ memory l₀ k₀ t7 out l k = length memory - k
 
 slice-aggregate-put-text : tie.Need-slice-aggregate-put-text Inv-loop μ-loop
 slice-aggregate-put-text c = search needs
@@ -42,9 +39,6 @@ loop-less c = search needs
 loop-again : tie.Need-loop-again Inv-loop μ-loop
 loop-again c = search needs
 
-make-room-requires-2 : tie.Need-make-room-requires-2 Inv-loop μ-loop
-make-room-requires-2 c κs = search needs
-
 slice-aggregate-put-text-2 : tie.Need-slice-aggregate-put-text-2 Inv-loop μ-loop
 slice-aggregate-put-text-2 c = search needs
 
@@ -63,7 +57,6 @@ put-memory-spec =
     (tie.spec
     Inv-loop
     μ-loop
-    make-room-requires
     slice-aggregate-put-text
     put-text-requires
     loop-holds
@@ -73,7 +66,6 @@ put-memory-spec =
     add-k
     loop-less
     loop-again
-    make-room-requires-2
     slice-aggregate-put-text-2
     put-text-requires-2
     same-length
