@@ -21,7 +21,6 @@ use compare::failures::compare_failures;
 use compare::logs::compare_logs;
 use compare::makeblock::compare_makeblock;
 use compare::replay::compare_replay;
-use compare::replay_timed::compare_replay_timed;
 use compare::run;
 use compare::trace::compare_trace;
 use inputs::replay::night::write_night;
@@ -39,12 +38,8 @@ fn main() -> ExitCode {
     let (text, code) = match use_words::parse(&words) {
         Ok(Use::Help) => (use_words::HELP.to_string(), 0),
         Ok(Use::Answer(kind)) => return answer(kind),
-        Ok(Use::Night {
-            entries,
-            seed,
-            time,
-        }) => {
-            return match write_night(&mut io::stdout().lock(), entries, seed, time) {
+        Ok(Use::Night { entries, seed }) => {
+            return match write_night(&mut io::stdout().lock(), entries, seed) {
                 Ok(()) => ExitCode::SUCCESS,
                 Err(error) => complain(&format!("standard output: {}", error), 1),
             };
@@ -107,15 +102,16 @@ fn answer(kind: Kind) -> ExitCode {
 /// The comparison asked for.
 fn compare(kind: Kind, seed: u64, cases: usize, command: &[std::ffi::OsString]) -> Verdict {
     let program = |input: &[u8], most: usize| run::run(command, input, most);
-    let filled = |input: &[u8], most: usize| run::run_filled(command, input, most);
-    let in_pieces = |input: &[u8], most: usize| run::run_in_pieces(command, input, most);
     match kind {
         Kind::Logs => compare_logs(&program, seed, cases),
         Kind::Entries => compare_entries(&program, seed),
         Kind::Blocks => compare_blocks(&program, seed, cases),
         Kind::Makeblock => compare_makeblock(&program, seed, cases),
         Kind::Trace => compare_trace(&program, seed, cases),
-        Kind::Replay => compare_replay(&filled, &in_pieces, seed, cases),
-        Kind::ReplayTimed => compare_replay_timed(&filled, &in_pieces, seed, cases),
+        Kind::Replay => {
+            let filled = |input: &[u8], most: usize| run::run_filled(command, input, most);
+            let in_pieces = |input: &[u8], most: usize| run::run_in_pieces(command, input, most);
+            compare_replay(&filled, &in_pieces, seed, cases)
+        }
     }
 }

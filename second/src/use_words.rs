@@ -4,7 +4,6 @@ use crate::compare::blocks::DEFAULT_BLOCKS;
 use crate::compare::logs::DEFAULT_CASES;
 use crate::compare::makeblock::DEFAULT_REQUESTS;
 use crate::compare::replay::DEFAULT_LOGS;
-use crate::compare::replay_timed::DEFAULT_TIMED_LOGS;
 use crate::compare::trace::DEFAULT_RUNS;
 use crate::inputs::rng::DEFAULT_SEED;
 use crate::listings::kind::{Kind, KINDS};
@@ -30,9 +29,8 @@ compares the proved programs' listings (docs/FORMATS.md) with its own.
   second compare trace [--seed N] [--cases N] -- COMMAND [ARGS..]
       Logs for a V260, a V560 or a V830 in the format of trace, run likewise.
       N random whole runs of each module are made (1200 unless said otherwise),
-      of the V830 half as many again with an old log (830) and N with a timed
-      one (831), besides broken heads and logs, the fixed and the long ones. A
-      ledger checks what is printed of every V830 run.
+      of the V830 half as many again, besides broken heads and logs, the fixed
+      and the long ones. A ledger checks what is printed of every V830 run.
   second compare replay [--seed N] [--cases N] -- COMMAND [ARGS..]
       Bench logs of a V830 in the format of replay, run likewise. N random
       whole logs are made (1200 unless said otherwise), besides broken ones,
@@ -40,10 +38,6 @@ compares the proved programs' listings (docs/FORMATS.md) with its own.
       pieces, logs and listings longer than 65,536 bytes, and logs whose longest
       entries lie over an edge of these at every split, whole and cut. A long
       log is a file in TMPDIR, removed at once; a shorter one comes by a pipe.
-  second compare replay_timed [--seed N] [--cases N] -- COMMAND [ARGS..]
-      Timed logs of a V830 in the format of replay_timed, made and run likewise:
-      triggers about 100 steps after accepted, neglected and refused ones, times
-      up to 2^32 - 1, faulty times, and times over an edge at every split.
   second compare failures [--seed N] -- KIND COMMAND [ARGS..]
       Inputs of KIND (one of the above) whose reading fails behind some byte with
       error 11, each in a run of COMMAND of its own: short ones at every byte,
@@ -61,16 +55,13 @@ compares the proved programs' listings (docs/FORMATS.md) with its own.
       Reads a head and a log on standard input, prints the listing of trace.
   second answer replay, or second replay
       Reads a log on standard input, prints the listing of replay.
-  second answer replay_timed
-      Reads a timed log on standard input, prints the listing of replay_timed.
-  second night ENTRIES SEED [--timed N]
+  second night ENTRIES SEED
       Prints a bench log of so many mixed entries, for measuring how fast a
       replay is: Channel Enable of four channels, Control A1 (random trigger,
       header, AUTO RESET), then pulses (40 %), memory reads (37 %), triggers
       (8 %), other reads and writes, VETO for a short while, TEST, CLEAR,
       MAN CLR and refused accesses. It has no fault, and the same ENTRIES and
-      SEED give the same bytes. With --timed it is a timed log of the same
-      entries, the time N in front of each: with 100 its listing is the same.
+      SEED give the same bytes.
   second --help
       Prints this.
 
@@ -91,7 +82,6 @@ fn default_cases(kind: Kind) -> Option<usize> {
         Kind::Makeblock => Some(DEFAULT_REQUESTS),
         Kind::Trace => Some(DEFAULT_RUNS),
         Kind::Replay => Some(DEFAULT_LOGS),
-        Kind::ReplayTimed => Some(DEFAULT_TIMED_LOGS),
     }
 }
 
@@ -103,8 +93,6 @@ pub enum Use {
     Night {
         entries: usize,
         seed: u64,
-        /// The time in front of each entry, if the log is a timed one.
-        time: Option<u32>,
     },
     Failures {
         kind: Kind,
@@ -133,16 +121,7 @@ pub fn parse(words: &[OsString]) -> Result<Use, String> {
         Some("night") => {
             let entries = parse_number("ENTRIES", words.get(1))?;
             let seed = parse_number("SEED", words.get(2))?;
-            let (time, behind) = match word(3).as_deref() {
-                Some("--timed") => (Some(parse_number("--timed", words.get(4))?), 5),
-                _ => (None, 3),
-            };
-            let asked = Use::Night {
-                entries,
-                seed,
-                time,
-            };
-            ended(&words[behind..], asked)
+            ended(&words[3..], Use::Night { entries, seed })
         }
         Some("compare") if word(1).as_deref() == Some("failures") => parse_failures(&words[2..]),
         Some("compare") => parse_compare(parse_kind(word(1).as_deref())?, &words[2..]),
@@ -170,14 +149,11 @@ fn parse_kind(word: Option<&str>) -> Result<Kind, String> {
     match word {
         Some(word) => named(word).map(|(_, kind)| *kind).ok_or_else(|| {
             format!(
-                "'{}' is none of logs, entries, blocks, makeblock, trace, replay and replay_timed",
+                "'{}' is none of logs, entries, blocks, makeblock, trace and replay",
                 word
             )
         }),
-        None => Err(
-            "logs, entries, blocks, makeblock, trace, replay or replay_timed must be named"
-                .to_string(),
-        ),
+        None => Err("logs, entries, blocks, makeblock, trace or replay must be named".to_string()),
     }
 }
 

@@ -47,9 +47,8 @@ fn it_agrees_with_itself() {
     for (subject, told) in [
         ("blocks", "random inputs agree: 2000 runs"),
         ("makeblock", "random inputs agree: 1200 runs"),
-        ("trace", "random inputs agree: 6750 runs"),
+        ("trace", "random inputs agree: 5250 runs"),
         ("replay", "random inputs agree: 1350 runs"),
-        ("replay_timed", "random inputs agree: 1500 runs"),
     ] {
         let (code, words) = compare(&[subject, "--", SECOND, "answer", subject]);
         assert_eq!(code, Some(0), "{}", words);
@@ -89,25 +88,15 @@ fn it_answers() {
         let listing = "entry answer value\n1 0 0\n2 0 0\n3 7 0\n";
         assert_eq!(String::from_utf8(output.stdout), Ok(listing.to_string()));
     }
-    // Channel Enable 1 and Control 01, then triggers at 100 steps, 99, 1, 60 and 60.
-    let set_up = [100, 6, 0x80, 0x22, 32, 1, 0, 6, 0x88, 0x22, 16, 1];
-    let timed = [&set_up[..], &[100, 4, 99, 4, 1, 4, 60, 4, 60, 4, 0x80, 0]].concat();
-    let output = second(&["answer", "replay_timed"], &timed);
-    let lines = "1 0 0\n2 0 0\n3 0 0\n4 13 0\n5 0 0\n6 13 0\n7 0 0\nfault 31 22\n";
-    let listing = format!("entry answer value\n{}", lines);
-    assert_eq!(String::from_utf8(output.stdout), Ok(listing));
-    // A V830 with an old log, and with a timed one, whose fault is told at its time.
+    let traced = [&[0xBE, 6, 1, 2][..], &[0; 32], &[4, 8]].concat();
+    let output = second(&["answer", "trace"], &traced);
     let zeros = " 0".repeat(32);
-    for (first, log, place) in [(0xBE, &[4, 8][..], 37), (0xBF, &[50, 4, 60, 8], 38)] {
-        let traced = [&[first, 6, 1, 2][..], &[0; 32], log].concat();
-        let output = second(&["answer", "trace"], &traced);
-        let listing = format!(
-            "\n1 7 0 1 0 4294967295 0 0 2 0 0 100{}\nfault 33 {}\nmemory 1 2\n",
-            zeros, place
-        );
-        let given = String::from_utf8(output.stdout).expect("text");
-        assert!(given.ends_with(&listing), "{}", given);
-    }
+    let listing = format!(
+        "\n1 7 0 1 0 4294967295 0 0 2 0 0{}\nfault 33 37\nmemory 1 2\n",
+        zeros
+    );
+    let given = String::from_utf8(output.stdout).expect("text");
+    assert!(given.ends_with(&listing), "{}", given);
 }
 
 #[test]
@@ -123,7 +112,6 @@ fn a_failed_read_is_told() {
         ("makeblock", ""),
         ("trace", ""),
         ("replay", "entry answer value\n"),
-        ("replay_timed", "entry answer value\n"),
     ] {
         let folder = fs::File::open(env!("CARGO_MANIFEST_DIR")).expect("a folder");
         let output = Command::new(SECOND)
@@ -141,15 +129,7 @@ fn a_failed_read_is_told() {
 
 #[test]
 fn listings_that_a_failed_read_cuts_are_compared() {
-    for kind in [
-        "logs",
-        "entries",
-        "blocks",
-        "makeblock",
-        "trace",
-        "replay",
-        "replay_timed",
-    ] {
+    for kind in ["logs", "entries", "blocks", "makeblock", "trace", "replay"] {
         let failures = ["failures", "--seed", "3", "--", kind];
         let (code, words) = compare(&[&failures[..], &[SECOND, "answer", kind]].concat());
         assert_eq!(code, Some(0), "{}", words);
@@ -179,13 +159,6 @@ fn a_night_is_replayed() {
     assert_eq!(listing.lines().count(), 3_001);
     assert!(!listing.contains("fault"));
     assert_ne!(second(&["night", "3000", "6"], b"").stdout, night.stdout);
-    // 100 steps apart: the same listing. 0 steps apart: the triggers behind the first one are neglected.
-    let timed = second(&["night", "3000", "5", "--timed", "100"], b"");
-    assert_eq!(timed.stdout.len(), night.stdout.len() + 3_000);
-    let answer = |log: &[u8]| second(&["answer", "replay_timed"], log).stdout;
-    assert_eq!(answer(&timed.stdout), listing.as_bytes());
-    let timed = second(&["night", "3000", "5", "--timed", "0"], b"");
-    assert!(String::from_utf8_lossy(&answer(&timed.stdout)).contains(" 13 0\n"));
 }
 
 #[test]
@@ -213,7 +186,7 @@ fn an_event_listing_that_fails_is_said_to_fail() {
         (&["cat"], "MISMATCH in "),
         (&[SECOND, "--help"], "MISMATCH in "),
     ] {
-        for subject in ["blocks", "makeblock", "trace", "replay", "replay_timed"] {
+        for subject in ["blocks", "makeblock", "trace", "replay"] {
             let (code, words) = compare(&[&[subject, "--"], command].concat());
             assert_eq!(code, Some(1), "{}", words);
             assert!(words.contains(told), "{}", words);
@@ -230,7 +203,6 @@ fn a_listing_cut_short_is_a_mismatch() {
         ("makeblock", 6),
         ("trace", 600),
         ("replay", 60),
-        ("replay_timed", 60),
     ] {
         let script = format!("'{}' answer {} | head -c {}", SECOND, subject, bytes);
         let (code, words) = compare(&[subject, "--", "sh", "-c", &script]);
@@ -272,7 +244,7 @@ fn without_a_folder_for_files_it_fails() {
 
 #[test]
 fn bad_use_is_told() {
-    let bad: [&[&str]; 29] = [
+    let bad: [&[&str]; 23] = [
         &[],
         &["compare"],
         &["answer", "notes"],
@@ -296,12 +268,6 @@ fn bad_use_is_told() {
         &["night", "5"],
         &["night", "five", "1"],
         &["night", "5", "1", "more"],
-        &["night", "5", "1", "--timed"],
-        &["night", "5", "1", "--timed", "-1"],
-        &["night", "5", "1", "--timed", "4294967296"],
-        &["night", "5", "1", "--timed", "100", "more"],
-        &["answer", "replay_timed", "more"],
-        &["compare", "replay_timed", "--"],
     ];
     for words in bad {
         let output = second(words, b"");

@@ -1,7 +1,6 @@
 -- Each fault of an argument and of an entry, 30 to 34, is given exactly when its line of document 01's table holds,
--- "left to right, the first fault found", and there is exactly one: both ways, one `then` after the other. An entry is
--- one whose kind stands at any place behind where it begins, the place that a fault gives; with its time it is told of
--- in ExactTimed.antt. Assumes nothing.
+-- "left to right, the first fault found", and there is exactly one: both ways, one `then` after the other. Assumes
+-- nothing.
 use Prim.Native.Nat.{ℕ, zero, suc, ◌-◌, ◌^◌, ◌≤◌, ◌<◌}
 use mathlib.Core.Path.{◌≡◌, refl, subst, ◌∙◌}
 use mathlib.Core.Bool.{Bool, true, false, cond, ◌||◌, true≢false}
@@ -18,7 +17,7 @@ use Rattle.benchlog.specs.declared.Numeral.{Numeral}
 use Rattle.benchlog.specs.declared.Numeral.TheVariants as numeral
 use Rattle.benchlog.specs.declared.Reading.{Reading}
 use Rattle.benchlog.specs.declared.Reading.TheVariants as reading
-use Rattle.benchlog.specs.Entries.{within, argument_at, width_at, data_limit, then, pulse_at, veto_at, read_at, write_at, kind_at, entry_from, entry_at}
+use Rattle.benchlog.specs.Entries.{within, argument_at, width_at, data_limit, then, pulse_at, veto_at, read_at, write_at, kind_at, entry_at}
 use Rattle.benchlog.specs.Lines.{Arguments, nothing_more, argument, arguments_of, ArgumentFault, in_number, outside, further, EntryFault, in_kind, no_such_kind, in_arguments}
 use Rattle.benchlog.specs.Number.{number_at}
 use Rattle.benchlog.proofs.ExactNumerals.{number_at_fault, refused_number, read_not_refused}
@@ -29,9 +28,9 @@ entry_not_refused p q = let z : ◌≡◌ {A = ℕ} 0 1 = cc in omega arith
 
 -- ---- the arguments of the entry at `start`
 -- this reading has its line where it refuses, and refuses where there is a line
-pub record Both (Line : Fault → Type 0) (start : ℕ) (r : Reading) : Type 0 where
-  pub refuses : (fault : Fault) (place : ℕ) → r ≡ reading.Refused fault place → Line fault
-  pub refused : (fault : Fault) → Line fault → r ≡ reading.Refused fault start
+record Both (Line : Fault → Type 0) (start : ℕ) (r : Reading) : Type 0 where
+  refuses : (fault : Fault) (place : ℕ) → r ≡ reading.Refused fault place → Line fault
+  refused : (fault : Fault) → Line fault → r ≡ reading.Refused fault start
 
 -- of what is not nothing
 Some : Arguments → Type 0
@@ -201,70 +200,68 @@ module _ (log : List ℕ) (at most : ℕ) where
       go (numeral.Value v next) p e = absurd (entry_not_refused e refl)
       go (numeral.Refused f place) p e = cc
 
--- ---- the entry whose kind stands at `at`, of what begins at `start`
-module _ (log : List ℕ) (start at : ℕ) where
-  kind_refused : (fault : Fault) (place : ℕ) → number_at log at ≡ numeral.Refused fault place → Both (EntryFault log at) start (reading.Refused fault start)
+-- ---- an entry
+module _ (log : List ℕ) (at : ℕ) where
+  kind_refused : (fault : Fault) (place : ℕ) → number_at log at ≡ numeral.Refused fault place → Both (EntryFault log at) at (reading.Refused fault at)
   kind_refused fault place e =
       record {
         refuses = λ f p q. let s : fault ≡ f = cc in rw (← s) (in_kind (refused_number log at e));
         refused = λ f l. go f l;
       }
     where
-      go : (f : Fault) → EntryFault log at f → reading.Refused fault start ≡ reading.Refused f start
+      go : (f : Fault) → EntryFault log at f → reading.Refused fault at ≡ reading.Refused f at
       go f (in_kind l) = let q = number_at_fault log at l in cc
       go f (no_such_kind q h) = absurd (read_not_refused e q)
       go f (in_arguments q h l) = absurd (read_not_refused e q)
 
   module _ (kind next : ℕ) (e : number_at log at ≡ numeral.Value kind next) where
-    kind_none : 7 < kind → Both (EntryFault log at) start (kind_at log start kind next)
+    kind_none : 7 < kind → Both (EntryFault log at) at (kind_at log at kind next)
     kind_none h =
         record {
-          refuses = λ f p q. let n = no_kind log start next kind h in let s : NoSuchKind ≡ f = cc in rw (← s) (no_such_kind e h);
-          refused = λ f l. no_kind log start next kind h ∙ go f l;
+          refuses = λ f p q. let n = no_kind log at next kind h in let s : NoSuchKind ≡ f = cc in rw (← s) (no_such_kind e h);
+          refused = λ f l. no_kind log at next kind h ∙ go f l;
         }
       where
-        go : (f : Fault) → EntryFault log at f → reading.Refused NoSuchKind start ≡ reading.Refused f start
+        go : (f : Fault) → EntryFault log at f → reading.Refused NoSuchKind at ≡ reading.Refused f at
         go f (in_kind l) = absurd (read_not_refused (number_at_fault log at l) e)
         go f (no_such_kind q i) = refl
         go f (in_arguments {kind = k} q i l) = let s : k ≡ kind = cc in absurd (omega arith)
 
-    kind_some : kind ≤ 7 → Both (EntryFault log at) start (kind_at log start kind next)
+    kind_some : kind ≤ 7 → Both (EntryFault log at) at (kind_at log at kind next)
     kind_some h =
         record {
-          refuses = λ f p q. in_arguments e h ((kind_both log start next kind h).refuses f p q);
+          refuses = λ f p q. in_arguments e h ((kind_both log at next kind h).refuses f p q);
           refused = λ f l. go f l;
         }
       where
-        go : (f : Fault) → EntryFault log at f → kind_at log start kind next ≡ reading.Refused f start
+        go : (f : Fault) → EntryFault log at f → kind_at log at kind next ≡ reading.Refused f at
         go f (in_kind l) = absurd (read_not_refused (number_at_fault log at l) e)
         go f (no_such_kind {kind = k} q i) = let s : k ≡ kind = cc in absurd (omega arith)
-        go f (in_arguments {kind = k} {next = n} q i l) = let s : k ≡ kind = cc in let t : n ≡ next = cc in (kind_both log start next kind h).refused f (rw (s, t) at l)
+        go f (in_arguments {kind = k} {next = n} q i l) = let s : k ≡ kind = cc in let t : n ≡ next = cc in (kind_both log at next kind h).refused f (rw (s, t) at l)
 
-  -- it gives the faults of an entry at `at`, with the place `start`
-  pub from_both : Both (EntryFault log at) start (entry_from log start at)
-  unfolding entry_from
-  from_both = go (number_at log at) refl
+  entry_both : Both (EntryFault log at) at (entry_at log at)
+  unfolding entry_at
+  entry_both = go (number_at log at) refl
     where
-      of : (kind next : ℕ) → number_at log at ≡ numeral.Value kind next → (t : Bool) → leb kind 7 ≡ t → Both (EntryFault log at) start (kind_at log start kind next)
+      of : (kind next : ℕ) → number_at log at ≡ numeral.Value kind next → (t : Bool) → leb kind 7 ≡ t → Both (EntryFault log at) at (kind_at log at kind next)
       of kind next e true h = kind_some kind next e (leb-true kind 7 h)
       of kind next e false h = kind_none kind next e (leb-false kind 7 h)
 
-      go : (n : Numeral) → number_at log at ≡ n → Both (EntryFault log at) start (then start n (λ kind p. kind_at log start kind p))
+      go : (n : Numeral) → number_at log at ≡ n → Both (EntryFault log at) at (then at n (λ kind p. kind_at log at kind p))
       go (numeral.Refused fault place) e = kind_refused fault place e
       go (numeral.Value kind next) e = of kind next e (leb kind 7) refl
 
--- ---- the theorems of an entry
-module _ (log : List ℕ) (at : ℕ) where
+  -- ---- the theorems
   pub entry_fault_is : (fault : Fault) → entry_at log at ≡ reading.Refused fault at ↔ EntryFault log at fault
-  entry_fault_is fault = ((λ e. (from_both log at at).refuses fault at e), λ l. (from_both log at at).refused fault l)
+  entry_fault_is fault = ((λ e. entry_both.refuses fault at e), λ l. entry_both.refused fault l)
 
   pub one_fault : (f g : Fault) → EntryFault log at f → EntryFault log at g → f ≡ g
-  one_fault f g l m = let p = (from_both log at at).refused f l in let q = (from_both log at at).refused g m in cc
+  one_fault f g l m = let p = entry_both.refused f l in let q = entry_both.refused g m in cc
 
   -- an entry is read exactly when there is no fault
   pub entry_read_is : ((fault : Fault) → EntryFault log at fault → ⊥) ↔ ((e : Entry) × (next : ℕ) × (entry_at log at ≡ reading.Entry e next))
-  entry_read_is = ((λ none. go (entry_at log at) refl none), λ r f l. absurd (entry_not_refused ((from_both log at at).refused f l) r.2))
+  entry_read_is = ((λ none. go (entry_at log at) refl none), λ r f l. absurd (entry_not_refused (entry_both.refused f l) r.2))
     where
       go : (r : Reading) → entry_at log at ≡ r → ((fault : Fault) → EntryFault log at fault → ⊥) → (e : Entry) × (next : ℕ) × (entry_at log at ≡ reading.Entry e next)
       go (reading.Entry e next) q none = (e, next, q)
-      go (reading.Refused fault place) q none = absurd (none fault ((from_both log at at).refuses fault place q))
+      go (reading.Refused fault place) q none = absurd (none fault (entry_both.refuses fault place q))

@@ -1,7 +1,7 @@
 -- The lines of document 01's table "Numbers that come back" that the log reader gives, 30 to 34, each with what it is
 -- "Given exactly when", and "Log: left to right, the first fault found". They are written from the paper's sentences
--- and not from the reader's definitions, of which they use only the number at a place; proofs/ExactNumerals.antt,
--- ExactFaults.antt and ExactTimed.antt show that the reader gives exactly these. Assumes nothing.
+-- and not from the reader's definitions, of which they use only the number at a place; proofs/ExactNumerals.antt and
+-- ExactFaults.antt show that the reader gives exactly these. Assumes nothing.
 use Rattle.std.specs.Prelude.{ℕ, ◌+◌, ◌^◌, ◌≤◌, ◌<◌, ◌≡◌, Bool, true, false, cond, ◌||◌, List, eqb, ltb, leb, length, get_or}
 use Rattle.benchlog.specs.declared.Fault.{Fault}
 use Rattle.benchlog.specs.declared.Fault.TheVariants.{Ends, NotShortest, TooLarge, NoSuchKind, OutOfRange}
@@ -57,8 +57,3 @@ pub data EntryFault (log : List ℕ) (at : ℕ) : Fault → Type 0 where
   no_such_kind : {kind next : ℕ} → number_at log at ≡ Value kind next → 7 < kind → EntryFault log at NoSuchKind
   in_arguments : {kind next : ℕ} {fault : Fault}
       → number_at log at ≡ Value kind next → kind ≤ 7 → ArgumentFault log next (arguments_of kind) fault → EntryFault log at fault
-
--- ---- an entry of the timed log (document 02, M-101): a fault in the number of its time, or in the entry behind it
-pub data TimedFault (log : List ℕ) (at : ℕ) : Fault → Type 0 where
-  in_time : {fault : Fault} → NumberFault log at fault → TimedFault log at fault
-  in_entry : {time from : ℕ} {fault : Fault} → number_at log at ≡ Value time from → EntryFault log from fault → TimedFault log at fault

@@ -1,6 +1,6 @@
 // An entry of the bench log: its kind, then its arguments, each looked at as soon as it is read.
 ghost use Rattle.std.specs.Prelude.{◌≡◌};
-ghost use Rattle.benchlog.specs.Entries.{argument_at, width_at, data_limit, veto_at, pulse_at, read_at, write_at, kind_at, entry_from, entry_at};
+ghost use Rattle.benchlog.specs.Entries.{argument_at, width_at, data_limit, veto_at, pulse_at, read_at, write_at, kind_at, entry_at};
 
 use crate::numbers::read_number;
 use crate::{Entry, Fault, Numeral, Reading};
@@ -135,14 +135,7 @@ fn of_kind(log: &[u8], at: usize, kind: u32, p: usize) -> Reading
 pub fn read_entry(log: &[u8], at: usize) -> Reading
     ensures { result ≡ entry_at log.now at }
 {
-    entry_from(log, at, at)
-}
-
-// The entry whose kind stands at `from`, of what begins at `at`.
-pub(crate) fn entry_from(log: &[u8], at: usize, from: usize) -> Reading
-    ensures { result ≡ entry_from log.now at from }
-{
-    match read_number(log, from) {
+    match read_number(log, at) {
         Numeral::Refused(fault, _) => Reading::Refused(fault, at),
         Numeral::Value(kind, p) => of_kind(log, at, kind, p),
     }

@@ -1,15 +1,13 @@
-// The bench log, old and timed: numbers in groups of seven bits, and entries of eight kinds. Knows no module.
+// The bench log: numbers in groups of seven bits, and entries of eight kinds. Knows no module.
 ghost use Rattle.std.specs.Prelude.{◌≡◌};
 ghost use Rattle.benchlog.specs.Faults.{fault_number};
 ghost use Rattle.benchlog.specs.Fields.{fields_of, entry_fields};
 
 mod entries;
 mod numbers;
-mod timed;
 
 pub use entries::{read_argument, read_entry};
 pub use numbers::read_number;
-pub use timed::{read_in_time, read_timed};
 
 // Why a log is refused.
 #[derive(Drop)]
@@ -46,29 +44,6 @@ pub enum Entry {
 pub enum Reading {
     Entry(Entry, usize),
     Refused(Fault, usize),
-}
-
-// Which log it is: the old one, whose entries are 100 steps of 10 ns apart, or the timed one, in which the time since
-// the entry before stands in front of each.
-#[derive(Drop)]
-pub enum Log {
-    Old,
-    Timed,
-}
-
-// What reading an entry with its time gives: the time, the entry and the place after it, or the fault and the place
-// that was given.
-#[derive(Drop)]
-pub enum TimedReading {
-    Entry(u32, Entry, usize),
-    Refused(Fault, usize),
-}
-
-// The same, time and reading apart: a time that is itself at fault is 0, and the reading has its fault.
-#[derive(Drop)]
-pub struct InTime {
-    pub time: u32,
-    pub reading: Reading,
 }
 
 // A reading as numbers: answer (0 when done), kind, the arguments in the log's order, and the place.

@@ -9,7 +9,7 @@ use borrow.Author.Tests.{leb-true, leb-false}
 use lib.Dec.{eqb, leb}
 use Rattle.bus.specs.declared.Access.{Access}
 use Rattle.bus.specs.declared.Answer.{Answer}
-use Rattle.bus.specs.declared.Answer.TheVariants.{Done, NotInTable, WrongWidth, WrongDirection, NoMeaning, NothingStored, WordsStored, NotRandom, NoWords, TooFewFree, WrongMemory, NoChannel, Malformed, Busy}
+use Rattle.bus.specs.declared.Answer.TheVariants.{Done, NotInTable, WrongWidth, WrongDirection, NoMeaning, NothingStored, WordsStored, NotRandom, NoWords, TooFewFree, WrongMemory, NoChannel, Malformed}
 use Rattle.bus.specs.declared.table.Row.{Row}
 use Rattle.bus.specs.declared.table.Register.{Register}
 use Rattle.bus.specs.declared.table.Register.TheVariants.{At, Refused}
@@ -33,7 +33,6 @@ refusal_value TooFewFree e = refl
 refusal_value WrongMemory e = refl
 refusal_value NoChannel e = refl
 refusal_value Malformed e = refl
-refusal_value Busy e = refl
 
 -- the number of what is reached, where a row gives its own
 abbrev pub number_at : (ℕ → ℕ → ℕ) → Register → ℕ

@@ -1,10 +1,10 @@
--- Document 01, "Numbers that come back", and document 02: those that a module gives. Assumes nothing.
+-- Document 01, "Numbers that come back": those that a module gives. Assumes nothing.
 use Rattle.std.specs.Prelude.{ℕ, Bool, cond, ◌&&◌, not, eqb}
 use Rattle.bus.specs.declared.Reply.{Reply}
 use Rattle.bus.specs.declared.Answer.{Answer}
-use Rattle.bus.specs.declared.Answer.TheVariants.{Done, NotInTable, WrongWidth, WrongDirection, NoMeaning, NothingStored, WordsStored, NotRandom, NoWords, TooFewFree, WrongMemory, NoChannel, Malformed, Busy}
+use Rattle.bus.specs.declared.Answer.TheVariants.{Done, NotInTable, WrongWidth, WrongDirection, NoMeaning, NothingStored, WordsStored, NotRandom, NoWords, TooFewFree, WrongMemory, NoChannel, Malformed}
 
--- the number of an answer; 0 when done ("0 when done", document 02, M-100); "13 busy" (M-101)
+-- the number of an answer; 0 when done ("0 when done", document 02, M-100)
 abbrev pub number_of : Answer → ℕ
 number_of (Done v) = 0
 number_of NotInTable = 1
@@ -19,7 +19,6 @@ number_of TooFewFree = 9
 number_of WrongMemory = 10
 number_of NoChannel = 11
 number_of Malformed = 12
-number_of Busy = 13
 
 -- "Every one returns its number, value 0"
 abbrev pub value_of : Answer → ℕ
@@ -36,7 +35,6 @@ value_of TooFewFree = 0
 value_of WrongMemory = 0
 value_of NoChannel = 0
 value_of Malformed = 0
-value_of Busy = 0
 
 abbrev pub reply_of : Answer → Reply
 reply_of a = record { number = number_of a; value = value_of a }

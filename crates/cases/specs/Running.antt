@@ -1,7 +1,5 @@
 -- What a case of document 01's "Reckoned by hand" is, and when it is right: each step is given to the module, and the
--- answer's number and value are those that the case expects; at the end, so are the pulses admitted. A step comes 100
--- steps of 10 ns after the one before: "the steps of document 01's cases, taken as 100 steps apart" (document 02,
--- M-101). Assumes nothing.
+-- answer's number and value are those that the case expects; at the end, so are the pulses admitted. Assumes nothing.
 use Rattle.std.specs.Prelude.{ℕ, suc, ◌+◌, ◌%◌, ◌^◌, Bool, cond, ◌&&◌, List, [], ◌∷◌, take, replicate, ◌==◌}
 use Rattle.benchlog.specs.declared.Entry.{Entry}
 use Rattle.benchlog.specs.declared.Entry.TheVariants as entry
@@ -33,7 +31,7 @@ reply_of_numeral (Refused fault place) = record { number = fault_number fault; v
 
 -- the answer to a step
 abbrev pub replied : Bench → Memory → Step → Reply
-replied b memory (Gives e) = reply_of (acted b.held memory 100 e).answer
+replied b memory (Gives e) = reply_of (acted b.held memory e).answer
 replied b memory (Reads first second third fourth fifth) =
     reply_of_numeral (number_at (first ∷ second ∷ third ∷ fourth ∷ fifth ∷ []) 0)
 
@@ -63,14 +61,14 @@ admitted_by b e answer = admitted answer (inhibits b.held.which b.held) (pulses_
 abbrev pub after_step : Bench → Memory → Step → Bench
 after_step b memory (Gives e) =
     record {
-      held = acted b.held memory 100 e;
-      pulses = (b.pulses + admitted_by b e (acted b.held memory 100 e).answer) % 2 ^ 32;
+      held = acted b.held memory e;
+      pulses = (b.pulses + admitted_by b e (acted b.held memory e).answer) % 2 ^ 32;
     }
 after_step b memory (Reads first second third fourth fifth) = b
 
 -- and the lent words
 abbrev pub memory_left : Bench → Memory → Step → Memory
-memory_left b memory (Gives e) = memory_after b.held memory 100 e
+memory_left b memory (Gives e) = memory_after b.held memory e
 memory_left b memory (Reads first second third fourth fifth) = memory
 
 -- whether an answer is the one expected

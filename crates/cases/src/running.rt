@@ -81,12 +81,12 @@ fn admitted_by(b: Bench, entry: Entry, answer: Answer) -> u32
     }
 }
 
-// An entry given to the module, 100 steps of 10 ns after the one before.
+// An entry given to the module.
 fn give(b: Bench, memory: &mut [u32], entry: Entry) -> Turned
     ensures { (result ≡ turned b (lent memory.old) (Gives entry)) × (memory.new ≡ (memory_left b (lent memory.old) (Gives entry)).words) }
 {
     let before = b.held;
-    let held = modules::act(before, memory, 100, entry);
+    let held = modules::act(before, memory, entry);
     let answer = held.answer;
     let reply = bus::numbered(answer);
     let pulses = std::num::wrapping_add_u32(b.pulses, admitted_by(b, entry, answer));

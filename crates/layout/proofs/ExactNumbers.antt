@@ -190,16 +190,16 @@ module _ (st : Settings) (ws : List ℕ) where
 
 -- ---- the writer
 -- one count more: f is that it is below 2^26, d that its channel is disabled, z that it is 0
-one_more_lem : (short f d z rest big disabled : Bool) → not rest ≡ (short && big || disabled)
+one_more : (short f d z rest big disabled : Bool) → not rest ≡ (short && big || disabled)
     → not (cond short f true && cond d z true && rest) ≡ (short && (not f || big) || (d && not z || disabled))
-one_more_lem true true true true rest big disabled e = e
-one_more_lem true true true false rest true disabled e = refl
-one_more_lem true true true false rest false disabled e = refl
-one_more_lem true true false z rest big disabled e = e
-one_more_lem true false d z rest big disabled e = refl
-one_more_lem false f true true rest big disabled e = e
-one_more_lem false f true false rest big disabled e = refl
-one_more_lem false f false z rest big disabled e = e
+one_more true true true true rest big disabled e = e
+one_more true true true false rest true disabled e = refl
+one_more true true true false rest false disabled e = refl
+one_more true true false z rest big disabled e = e
+one_more true false d z rest big disabled e = refl
+one_more false f true true rest big disabled e = e
+one_more false f true false rest big disabled e = refl
+one_more false f false z rest big disabled e = e
 
 nothing_more_lem : (short : Bool) → false ≡ (short && false || false)
 nothing_more_lem true = refl
@@ -212,7 +212,7 @@ count_lines short x k [] = nothing_more_lem short
 count_lines short x k (c ∷ cs) =
     let half : x / 2 ^ k / 2 ≡ x / 2 ^ suc k = div-div-eq-div-mul x (2 ^ k) 2 ∙ ap (λ (d : ℕ). x / d) (sym (pow-suc 2 k)) in
     rw (half, at_least (2 ^ 26) c)
-    (one_more_lem short (ltb c (2 ^ 26)) (eqb (bit x k) 0) (eqb c 0) (counts_fit short (x / 2 ^ suc k) cs) _ _ (count_lines short x (suc k) cs))
+    (one_more short (ltb c (2 ^ 26)) (eqb (bit x k) 0) (eqb c 0) (counts_fit short (x / 2 ^ suc k) cs) _ _ (count_lines short x (suc k) cs))
 
 -- not all of three
 three_not : (a b c : Bool) → (not a || not b || not c) ≡ not (a && b && c)

@@ -1,5 +1,5 @@
 -- What an entry of the log does to the module; docs/FORMATS.md, `trace`. Assumes nothing.
-use Rattle.std.specs.Prelude.{ℕ, true, false}
+use Rattle.std.specs.Prelude.{true, false}
 use Rattle.benchlog.specs.declared.Entry.{Entry}
 use Rattle.benchlog.specs.declared.Entry.TheVariants as entry
 use Rattle.logged.specs.Entries.{access_for, call830_of}
@@ -42,20 +42,20 @@ abbrev pub after830 : Held → o830.Outcome → Held
 after830 t o =
     record { which = which.V830; answer = o.answer; v260 = t.v260; v560 = t.v560; v830 = o.state; interrupter = t.interrupter }
 
--- the module after an entry, so much time after the one before, of which a V260 and a V560 know nothing
-abbrev pub acted_as : Which → Held → Memory → ℕ → Entry → Held
-acted_as which.V260 t memory time e = after260 t (v260.step_of t.v260 t.interrupter (call_of e))
-acted_as which.V560 t memory time e = after560 t (v560.step_of t.v560 t.interrupter (call_of e))
-acted_as which.V830 t memory time e = after830 t (v830.step_of time t.v830 memory (call830_of e)).outcome
+-- the module after an entry
+abbrev pub acted_as : Which → Held → Memory → Entry → Held
+acted_as which.V260 t memory e = after260 t (v260.step_of t.v260 t.interrupter (call_of e))
+acted_as which.V560 t memory e = after560 t (v560.step_of t.v560 t.interrupter (call_of e))
+acted_as which.V830 t memory e = after830 t (v830.step_of t.v830 memory (call830_of e)).outcome
 
-abbrev pub acted : Held → Memory → ℕ → Entry → Held
-acted t memory time e = acted_as t.which t memory time e
+abbrev pub acted : Held → Memory → Entry → Held
+acted t memory e = acted_as t.which t memory e
 
 -- the memory after an entry: "Each access and each trigger of a V830 is lent all the words."
-abbrev pub memory_as : Which → Held → Memory → ℕ → Entry → Memory
-memory_as which.V260 t memory time e = memory
-memory_as which.V560 t memory time e = memory
-memory_as which.V830 t memory time e = (v830.step_of time t.v830 memory (call830_of e)).memory
+abbrev pub memory_as : Which → Held → Memory → Entry → Memory
+memory_as which.V260 t memory e = memory
+memory_as which.V560 t memory e = memory
+memory_as which.V830 t memory e = (v830.step_of t.v830 memory (call830_of e)).memory
 
-abbrev pub memory_after : Held → Memory → ℕ → Entry → Memory
-memory_after t memory time e = memory_as t.which t memory time e
+abbrev pub memory_after : Held → Memory → Entry → Memory
+memory_after t memory e = memory_as t.which t memory e

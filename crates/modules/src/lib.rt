@@ -50,9 +50,9 @@ fn call_of(entry: Entry) -> Call
     }
 }
 
-// The module after an entry, so much time after the one before; a V830 is lent the memory.
-pub fn act(t: Held, memory: &mut [u32], time: u32, entry: Entry) -> Held
-    ensures { (result ≡ acted t (lent memory.old) time entry) × (memory.new ≡ (memory_after t (lent memory.old) time entry).words) }
+// The module after an entry; a V830 is lent the memory.
+pub fn act(t: Held, memory: &mut [u32], entry: Entry) -> Held
+    ensures { (result ≡ acted t (lent memory.old) entry) × (memory.new ≡ (memory_after t (lent memory.old) entry).words) }
 {
     let which = t.which;
     let v260 = t.v260;
@@ -62,7 +62,7 @@ pub fn act(t: Held, memory: &mut [u32], time: u32, entry: Entry) -> Held
     match which {
         Which::V260 => after_260(t, lend_260(v260, i, call_of(entry))),
         Which::V560 => after_560(t, lend_560(v560, i, call_of(entry))),
-        Which::V830 => after_830(t, v830::step(v830, time, memory, call_830_of(entry))),
+        Which::V830 => after_830(t, v830::step(v830, memory, call_830_of(entry))),
     }
 }
 

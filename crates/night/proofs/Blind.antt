@@ -4,10 +4,9 @@
 use Rattle.std.proofs.Common.{◌≡◌, ℕ, zero, suc, ◌+◌, ◌%◌, ◌^◌, Bool, true, List, ◌∷◌, length, drop, sym, refl, ap, ◌∙◌, ap₂}
 use lib.ListN.{length-replicate}
 use Rattle.benchlog.specs.declared.Entry.{Entry}
-use Rattle.benchlog.specs.declared.Log.{Log}
-use Rattle.benchlog.specs.declared.TimedReading.{TimedReading}
-use Rattle.benchlog.specs.declared.TimedReading.TheVariants as timed
-use Rattle.benchlog.specs.Timed.{timed_at}
+use Rattle.benchlog.specs.declared.Reading.{Reading}
+use Rattle.benchlog.specs.declared.Reading.TheVariants as reading
+use Rattle.benchlog.specs.Entries.{entry_at}
 use Rattle.bus.specs.declared.Answer.TheVariants.{Done}
 use Rattle.bus.specs.Answers.{number_of, value_of}
 use Rattle.logged.specs.Entries.{call830_of}
@@ -30,44 +29,44 @@ record Alike (n : Night) (m k : Memory) : Type 0 where
   pub right : Sound n k
   pub words : stored_words n.v830.store m ≡ stored_words n.v830.store k
 
-module _ (n : Night) (m k : Memory) (a : Alike n m k) (time : ℕ) (e : Entry) (bytes : ℕ) where
-  same : (stepped n m time e).outcome ≡ (stepped n k time e).outcome
-  same = (blind time n.v830 m k a.left.0 a.left.1 a.right.1 a.words (call830_of e)).0
+module _ (n : Night) (m k : Memory) (a : Alike n m k) (e : Entry) (bytes : ℕ) where
+  same : (stepped n m e).outcome ≡ (stepped n k e).outcome
+  same = (blind n.v830 m k a.left.0 a.left.1 a.right.1 a.words (call830_of e)).0
 
   -- an entry makes one night of both, its line is the same, and the memories stay so
-  one_night : onward n m time e bytes ≡ onward n k time e bytes
+  one_night : onward n m e bytes ≡ onward n k e bytes
   one_night = ap (λ (o : Outcome). record { v830 = o.state; entries = (n.entries + 1) % 2 ^ 64; place = (n.place + bytes) % 2 ^ 64 }) same
 
-  one_line : line_of (taken_of n m time e bytes) ≡ line_of (taken_of n k time e bytes)
+  one_line : line_of (taken_of n m e bytes) ≡ line_of (taken_of n k e bytes)
   one_line = ap (λ (o : Outcome). Shown ((n.entries + 1) % 2 ^ 64) (number_of o.answer) (value_of o.answer)) same
 
-  stays_alike : Alike (onward n m time e bytes) (stepped n m time e).memory (stepped n k time e).memory
+  stays_alike : Alike (onward n m e bytes) (stepped n m e).memory (stepped n k e).memory
   stays_alike =
-      let l = step_sound n m time e bytes a.left in
-      let r = step_sound n k time e bytes a.right in
+      let l = step_sound n m e bytes a.left in
+      let r = step_sound n k e bytes a.right in
       record {
         left = l;
         right = (l.0, r.1 ∙ sym (ap (λ (o : Outcome). o.state.store.capacity.0) same));
-        words = (blind time n.v830 m k a.left.0 a.left.1 a.right.1 a.words (call830_of e)).1;
+        words = (blind n.v830 m k a.left.0 a.left.1 a.right.1 a.words (call830_of e)).1;
       }
 
 -- one entry, where the lines behind it are the same, or none
 reading_alike : (last : Bool) (bytes : List ℕ) (n : Night) (m k : Memory) → Alike n m k → (f : Night → Memory → List ℕ → Run)
     → ((n₁ : Night) (m₁ k₁ : Memory) (b : List ℕ) → Alike n₁ m₁ k₁ → (f n₁ m₁ b).lines ≡ (f n₁ k₁ b).lines)
-    → (x : TimedReading) → (on_reading last bytes n m x f).lines ≡ (on_reading last bytes n k x f).lines
-reading_alike last bytes n m k a f go (timed.Entry time e next) =
-    let m₁ : Memory = (stepped n m time e).memory in
-    let k₁ : Memory = (stepped n k time e).memory in
-    ap₂ (λ (l : Line) (ls : List Line). l ∷ ls) (one_line n m k a time e next)
-    (go (onward n m time e next) m₁ k₁ (drop next bytes) (stays_alike n m k a time e next) ∙ ap (λ (x : Night). (f x k₁ (drop next bytes)).lines) (one_night n m k a time e next))
-reading_alike last bytes n m k a f go (timed.Refused fault place) = stopped_lines last bytes fault n m k
+    → (x : Reading) → (on_reading last bytes n m x f).lines ≡ (on_reading last bytes n k x f).lines
+reading_alike last bytes n m k a f go (reading.Entry e next) =
+    let m₁ : Memory = (stepped n m e).memory in
+    let k₁ : Memory = (stepped n k e).memory in
+    ap₂ (λ (l : Line) (ls : List Line). l ∷ ls) (one_line n m k a e next)
+    (go (onward n m e next) m₁ k₁ (drop next bytes) (stays_alike n m k a e next) ∙ ap (λ (x : Night). (f x k₁ (drop next bytes)).lines) (one_night n m k a e next))
+reading_alike last bytes n m k a f go (reading.Refused fault place) = stopped_lines last bytes fault n m k
 
-run_alike : (which : Log) (most : ℕ) (last : Bool) (bytes : List ℕ) (n : Night) (m k : Memory) → Alike n m k
-    → (run_of which most last bytes n m).lines ≡ (run_of which most last bytes n k).lines
+run_alike : (most : ℕ) (last : Bool) (bytes : List ℕ) (n : Night) (m k : Memory) → Alike n m k
+    → (run_of most last bytes n m).lines ≡ (run_of most last bytes n k).lines
 unfolding run_of
-run_alike which zero last bytes n m k a = refl
-run_alike which (suc most) last bytes n m k a =
-    reading_alike last bytes n m k a (λ n₁ m₁ b. run_of which most last b n₁ m₁) (λ n₁ m₁ k₁ b h. run_alike which most last b n₁ m₁ k₁ h) (timed_at which bytes 0)
+run_alike zero last bytes n m k a = refl
+run_alike (suc most) last bytes n m k a =
+    reading_alike last bytes n m k a (λ n₁ m₁ b. run_of most last b n₁ m₁) (λ n₁ m₁ k₁ b h. run_alike most last b n₁ m₁ k₁ h) (entry_at bytes 0)
 
 -- ---- a night that begins
 abbrev fresh : Night
@@ -86,10 +85,10 @@ module _ (m : Memory) (e : length m.words ≡ 16384) where
   begun_passes = ap (λ (n : Night). gate_of n.v830 m) begun_fresh ∙ sound_gate fresh m fresh_sound
 
 -- ---- the theorem
-pub listing_blind : (which : Log) (m : Memory) → length m.words ≡ 16384 → (log : List ℕ) → lines_of which log (begun_at m) m ≡ lines_of which log (begun_at fresh_words) fresh_words
-listing_blind which m e log =
+pub listing_blind : (m : Memory) → length m.words ≡ 16384 → (log : List ℕ) → lines_of log (begun_at m) m ≡ lines_of log (begun_at fresh_words) fresh_words
+listing_blind m e log =
     let l : length fresh_words.words ≡ 16384 = length-replicate {A = ℕ} 16384 0 in
     let a : Alike fresh m fresh_words =
     record { left = fresh_sound m e; right = fresh_sound fresh_words l; words = emptied_none (empty_of 16384) m ∙ sym (emptied_none (empty_of 16384) fresh_words) } in
-    ap (λ (n : Night). lines_of which log n m) (begun_fresh m e) ∙ run_alike which (suc (length log)) true log fresh m fresh_words a
-    ∙ ap (λ (n : Night). lines_of which log n fresh_words) (sym (begun_fresh fresh_words l))
+    ap (λ (n : Night). lines_of log n m) (begun_fresh m e) ∙ run_alike (suc (length log)) true log fresh m fresh_words a
+    ∙ ap (λ (n : Night). lines_of log n fresh_words) (sym (begun_fresh fresh_words l))

@@ -4,12 +4,11 @@ use Rattle.std.proofs.Common.{◌≡◌, ℕ, zero, suc, ◌+◌, ◌-◌, ◌*�
 use Rattle.benchlog.specs.declared.Entry.{Entry}
 use Rattle.benchlog.specs.declared.Fault.{Fault}
 use Rattle.benchlog.specs.declared.Fault.TheVariants.{Ends}
-use Rattle.benchlog.specs.declared.Log.{Log}
-use Rattle.benchlog.specs.declared.TimedReading.{TimedReading}
-use Rattle.benchlog.specs.declared.TimedReading.TheVariants as timed
-use Rattle.benchlog.specs.Timed.{timed_at}
+use Rattle.benchlog.specs.declared.Reading.{Reading}
+use Rattle.benchlog.specs.declared.Reading.TheVariants as reading
+use Rattle.benchlog.specs.Entries.{entry_at}
 use Rattle.benchlog.specs.Faults.{fault_number}
-use Rattle.benchlog.proofs.Places.{picked, timed_place}
+use Rattle.benchlog.proofs.Places.{picked, entry_place}
 use Rattle.bus.specs.Answers.{is_done}
 use Rattle.meb.specs.Ring.{Memory, lent}
 use Rattle.text.specs.Line.{line, fault_line, fault_word, put_in, after_in}
@@ -104,90 +103,90 @@ module _ (last : Bool) (bytes : List ℕ) (fault : Fault) (n : Night) where
   stopped_lines m₁ m₂ = ap (λ (x : Run). x.lines) (same_but_memory m₁ m₂)
 
 -- where no entry can be read a run stops
-run_stops : (which : Log) (left : ℕ) → 0 < left → (last : Bool) (bytes : List ℕ) (n : Night) (memory : Memory) (fault : Fault) (place : ℕ)
-    → timed_at which bytes 0 ≡ timed.Refused fault place → run_of which left last bytes n memory ≡ stopped_at last bytes fault n memory
+run_stops : (left : ℕ) → 0 < left → (last : Bool) (bytes : List ℕ) (n : Night) (memory : Memory) (fault : Fault) (place : ℕ)
+    → entry_at bytes 0 ≡ reading.Refused fault place → run_of left last bytes n memory ≡ stopped_at last bytes fault n memory
 unfolding run_of
-run_stops which zero h last bytes n memory fault place r = absurd (omega arith)
-run_stops which (suc left) h last bytes n memory fault place r =
-    ap (λ (x : TimedReading). on_reading last bytes n memory x (λ n₂ memory₂ bytes₂. run_of which left last bytes₂ n₂ memory₂)) r
+run_stops zero h last bytes n memory fault place r = absurd (omega arith)
+run_stops (suc left) h last bytes n memory fault place r =
+    ap (λ (x : Reading). on_reading last bytes n memory x (λ n₂ memory₂ bytes₂. run_of left last bytes₂ n₂ memory₂)) r
 
-pub run_fits : (which : Log) (most : ℕ) (last : Bool) (bytes : List ℕ) (n : Night) (memory : Memory) → length (text (run_of which most last bytes n memory).lines) ≤ 63 * most
+pub run_fits : (most : ℕ) (last : Bool) (bytes : List ℕ) (n : Night) (memory : Memory) → length (text (run_of most last bytes n memory).lines) ≤ 63 * most
 unfolding run_of text
-run_fits which zero last bytes n memory = omega arith
-run_fits which (suc most) last bytes n memory = go (timed_at which bytes 0) (λ bytes₁ n₁ memory₁. run_fits which most last bytes₁ n₁ memory₁)
+run_fits zero last bytes n memory = omega arith
+run_fits (suc most) last bytes n memory = go (entry_at bytes 0) (λ bytes₁ n₁ memory₁. run_fits most last bytes₁ n₁ memory₁)
   where
-    go : (r : TimedReading)
-        → ((bytes₁ : List ℕ) (n₁ : Night) (memory₁ : Memory) → length (text (run_of which most last bytes₁ n₁ memory₁).lines) ≤ 63 * most)
-        → length (text (on_reading last bytes n memory r (λ n₁ memory₁ bytes₁. run_of which most last bytes₁ n₁ memory₁)).lines) ≤ 63 * suc most
-    go (timed.Entry time e next) h =
-        let l : Line = line_of (taken_of n memory time e next) in
-        let rest : Run = run_of which most last (drop next bytes) (onward n memory time e next) (stepped n memory time e).memory in
-        omega (arith, text_cons l rest.lines, line_fits l, h (drop next bytes) (onward n memory time e next) (stepped n memory time e).memory)
-    go (timed.Refused fault place) h = omega (arith, stopped_fits last bytes fault n memory)
+    go : (r : Reading)
+        → ((bytes₁ : List ℕ) (n₁ : Night) (memory₁ : Memory) → length (text (run_of most last bytes₁ n₁ memory₁).lines) ≤ 63 * most)
+        → length (text (on_reading last bytes n memory r (λ n₁ memory₁ bytes₁. run_of most last bytes₁ n₁ memory₁)).lines) ≤ 63 * suc most
+    go (reading.Entry e next) h =
+        let l : Line = line_of (taken_of n memory e next) in
+        let rest : Run = run_of most last (drop next bytes) (onward n memory e next) (stepped n memory e).memory in
+        omega (arith, text_cons l rest.lines, line_fits l, h (drop next bytes) (onward n memory e next) (stepped n memory e).memory)
+    go (reading.Refused fault place) h = omega (arith, stopped_fits last bytes fault n memory)
 
 -- an entry ends in the bytes that it is read of
-pub within : (which : Log) (bytes : List ℕ) (time : ℕ) (e : Entry) (next : ℕ) → timed_at which bytes 0 ≡ timed.Entry time e next → next ≤ length bytes
-within which bytes time e next r = (rw r at (timed_place bytes which 0)).1
+pub within : (bytes : List ℕ) (e : Entry) (next : ℕ) → entry_at bytes 0 ≡ reading.Entry e next → next ≤ length bytes
+within bytes e next r = (rw r at (entry_place bytes 0)).1
 
 -- a run uses no more bytes than there are
-pub run_used : (which : Log) (most : ℕ) (last : Bool) (bytes : List ℕ) (n : Night) (memory : Memory) → (run_of which most last bytes n memory).used ≤ length bytes
+pub run_used : (most : ℕ) (last : Bool) (bytes : List ℕ) (n : Night) (memory : Memory) → (run_of most last bytes n memory).used ≤ length bytes
 unfolding run_of
-run_used which zero last bytes n memory = omega arith
-run_used which (suc most) last bytes n memory = go (timed_at which bytes 0) refl (λ bytes₁ n₁ memory₁. run_used which most last bytes₁ n₁ memory₁)
+run_used zero last bytes n memory = omega arith
+run_used (suc most) last bytes n memory = go (entry_at bytes 0) refl (λ bytes₁ n₁ memory₁. run_used most last bytes₁ n₁ memory₁)
   where
-    go : (r : TimedReading) → timed_at which bytes 0 ≡ r
-        → ((bytes₁ : List ℕ) (n₁ : Night) (memory₁ : Memory) → (run_of which most last bytes₁ n₁ memory₁).used ≤ length bytes₁)
-        → (on_reading last bytes n memory r (λ n₁ memory₁ bytes₁. run_of which most last bytes₁ n₁ memory₁)).used ≤ length bytes
-    go (timed.Entry time e next) r h =
-        omega (arith, within which bytes time e next r, length-drop next bytes, h (drop next bytes) (onward n memory time e next) (stepped n memory time e).memory)
-    go (timed.Refused fault place) r h =
+    go : (r : Reading) → entry_at bytes 0 ≡ r
+        → ((bytes₁ : List ℕ) (n₁ : Night) (memory₁ : Memory) → (run_of most last bytes₁ n₁ memory₁).used ≤ length bytes₁)
+        → (on_reading last bytes n memory r (λ n₁ memory₁ bytes₁. run_of most last bytes₁ n₁ memory₁)).used ≤ length bytes
+    go (reading.Entry e next) r h =
+        omega (arith, within bytes e next r, length-drop next bytes, h (drop next bytes) (onward n memory e next) (stepped n memory e).memory)
+    go (reading.Refused fault place) r h =
         stopped (λ (x : Run). x.used ≤ length bytes) last bytes fault n memory (omega arith) (omega arith) (omega arith)
 
 -- nor does what is replayed, refused or not
-pub part_used : (which : Log) (p : Part) (out : List ℕ) (last : Bool) (bytes : List ℕ) (n : Night) (memory : Memory) → p ≡ part_of (replay_for which out last bytes n memory) → p.used ≤ length bytes
-part_used which p out last bytes n memory e =
-    let used : (replay_for which out last bytes n memory).used ≤ length bytes =
-    picked (λ (x : Run). x.used ≤ length bytes) (is_done (gate_of n.v830 memory)) (λ t. run_used which (length out / 63) last bytes n memory) (omega arith) in
+pub part_used : (p : Part) (out : List ℕ) (last : Bool) (bytes : List ℕ) (n : Night) (memory : Memory) → p ≡ part_of (replay_for out last bytes n memory) → p.used ≤ length bytes
+part_used p out last bytes n memory e =
+    let used : (replay_for out last bytes n memory).used ≤ length bytes =
+    picked (λ (x : Run). x.used ≤ length bytes) (is_done (gate_of n.v830 memory)) (λ t. run_used (length out / 63) last bytes n memory) (omega arith) in
     omega (arith, ap (λ (x : Part). x.used) e, used)
 
 -- of a run of at most `most` lines, begun with the buffer out₀: the lines of `used` bytes are put up to `at`, and
 -- `left` more may come
-pub record Going (which : Log) (whole : Run) (out₀ log : List ℕ) (last : Bool) (left used at : ℕ) (n : Night) (memory : Memory) (out : List ℕ) : Type 0 where
+pub record Going (whole : Run) (out₀ log : List ℕ) (last : Bool) (left used at : ℕ) (n : Night) (memory : Memory) (out : List ℕ) : Type 0 where
   pub len : length out ≡ length out₀
   pub room : at + 63 * left ≤ length out
   pub in_log : used ≤ length log
-  pub part : part_of whole ≡ part_behind used at (run_of which left last (drop used log) n memory)
-  pub words : whole.memory ≡ (run_of which left last (drop used log) n memory).memory
-  pub puts : put out₀ 0 (text whole.lines) ≡ put out at (text (run_of which left last (drop used log) n memory).lines)
+  pub part : part_of whole ≡ part_behind used at (run_of left last (drop used log) n memory)
+  pub words : whole.memory ≡ (run_of left last (drop used log) n memory).memory
+  pub puts : put out₀ 0 (text whole.lines) ≡ put out at (text (run_of left last (drop used log) n memory).lines)
 
-pub start : (which : Log) (most : ℕ) (last : Bool) (log : List ℕ) (n : Night) (memory : Memory) (out : List ℕ) → 63 * most ≤ length out
-    → Going which (run_of which most last log n memory) out log last most 0 0 n memory out
-start which most last log n memory out h = record { len = refl; room = omega arith; in_log = omega arith; part = refl; words = refl; puts = refl }
+pub start : (most : ℕ) (last : Bool) (log : List ℕ) (n : Night) (memory : Memory) (out : List ℕ) → 63 * most ≤ length out
+    → Going (run_of most last log n memory) out log last most 0 0 n memory out
+start most last log n memory out h = record { len = refl; room = omega arith; in_log = omega arith; part = refl; words = refl; puts = refl }
 
-module _ {which : Log} {whole : Run} {out₀ log : List ℕ} {last : Bool} {used at : ℕ} {n : Night} {memory : Memory} {out : List ℕ} where
+module _ {whole : Run} {out₀ log : List ℕ} {last : Bool} {used at : ℕ} {n : Night} {memory : Memory} {out : List ℕ} where
   -- an entry is read and taken: its line is put, and the rest stands behind it
-  one : (left time : ℕ) (e : Entry) (bytes at₁ : ℕ) (out₁ : List ℕ)
-      → Going which whole out₀ log last (suc left) used at n memory out
-      → timed_at which (drop used log) 0 ≡ timed.Entry time e bytes
-      → at₁ ≡ at + length (text_of (line_of (taken_of n memory time e bytes)))
-      → out₁ ≡ put out at (text_of (line_of (taken_of n memory time e bytes)))
-      → Going which whole out₀ log last left (used + bytes) at₁ (onward n memory time e bytes) (stepped n memory time e).memory out₁
+  one : (left : ℕ) (e : Entry) (bytes at₁ : ℕ) (out₁ : List ℕ)
+      → Going whole out₀ log last (suc left) used at n memory out
+      → entry_at (drop used log) 0 ≡ reading.Entry e bytes
+      → at₁ ≡ at + length (text_of (line_of (taken_of n memory e bytes)))
+      → out₁ ≡ put out at (text_of (line_of (taken_of n memory e bytes)))
+      → Going whole out₀ log last left (used + bytes) at₁ (onward n memory e bytes) (stepped n memory e).memory out₁
   unfolding run_of text
-  one left time e bytes at₁ out₁ g r p q =
-      let l : Line = line_of (taken_of n memory time e bytes) in
-      let n₁ : Night = onward n memory time e bytes in
-      let m₁ : Memory = (stepped n memory time e).memory in
-      let rest : Run = run_of which left last (drop bytes (drop used log)) n₁ m₁ in
-      let f : run_of which (suc left) last (drop used log) n memory ≡ before l bytes rest =
-      ap (λ (x : TimedReading). on_reading last (drop used log) n memory x (λ n₂ memory₂ bytes₂. run_of which left last bytes₂ n₂ memory₂)) r in
-      let d : run_of which left last (drop (used + bytes) log) n₁ m₁ ≡ rest =
-      ap (λ (b : List ℕ). run_of which left last b n₁ m₁) (sym (drop-drop bytes used log)) in
-      let fits : length (text rest.lines) ≤ 63 * left = run_fits which left last (drop bytes (drop used log)) n₁ m₁ in
+  one left e bytes at₁ out₁ g r p q =
+      let l : Line = line_of (taken_of n memory e bytes) in
+      let n₁ : Night = onward n memory e bytes in
+      let m₁ : Memory = (stepped n memory e).memory in
+      let rest : Run = run_of left last (drop bytes (drop used log)) n₁ m₁ in
+      let f : run_of (suc left) last (drop used log) n memory ≡ before l bytes rest =
+      ap (λ (x : Reading). on_reading last (drop used log) n memory x (λ n₂ memory₂ bytes₂. run_of left last bytes₂ n₂ memory₂)) r in
+      let d : run_of left last (drop (used + bytes) log) n₁ m₁ ≡ rest =
+      ap (λ (b : List ℕ). run_of left last b n₁ m₁) (sym (drop-drop bytes used log)) in
+      let fits : length (text rest.lines) ≤ 63 * left = run_fits left last (drop bytes (drop used log)) n₁ m₁ in
       let ends : at + length (text_of l) ≤ length out = omega (arith, g.room, line_fits l) in
       record {
         len = ap length q ∙ length_put out at (text_of l) ends ∙ g.len;
         room = omega (arith, ap length q, length_put out at (text_of l) ends, g.room, line_fits l, p);
-        in_log = omega (arith, within which (drop used log) time e bytes r, length-drop used log, g.in_log);
+        in_log = omega (arith, within (drop used log) e bytes r, length-drop used log, g.in_log);
         part =
             g.part ∙ ap (part_behind used at) f
             ∙ ap₂ (λ (u a : ℕ). record { night = rest.night; used = u; at = a; next = rest.next }) (omega arith) (omega (arith, text_cons l rest.lines, p))
@@ -201,27 +200,27 @@ module _ {which : Log} {whole : Run} {out₀ log : List ℕ} {last : Bool} {used
       }
 
   -- the same where `left` lines may come: t is what taking the entry gave, m₁ the lent words then
-  pub again : (left time : ℕ) (e : Entry) (bytes : ℕ) (t : Taken) (m₁ : Memory) (end : ℕ) (out₁ : List ℕ) → 0 < left
-      → Going which whole out₀ log last left used at n memory out
-      → timed_at which (drop used log) 0 ≡ timed.Entry time e bytes
-      → t ≡ taken_of n memory time e bytes → m₁ ≡ (stepped n memory time e).memory
+  pub again : (left : ℕ) (e : Entry) (bytes : ℕ) (t : Taken) (m₁ : Memory) (end : ℕ) (out₁ : List ℕ) → 0 < left
+      → Going whole out₀ log last left used at n memory out
+      → entry_at (drop used log) 0 ≡ reading.Entry e bytes
+      → t ≡ taken_of n memory e bytes → m₁ ≡ (stepped n memory e).memory
       → end ≡ after_in 63 out at (text_of (line_of t)) → out₁ ≡ put_in 63 out at (text_of (line_of t))
-      → Going which whole out₀ log last (left - 1) (used + bytes) end t.night m₁ out₁
-  again zero time e bytes t m₁ end out₁ h g r f d p q = absurd (omega arith)
-  again (suc left) time e bytes t m₁ end out₁ h g r f d p q =
+      → Going whole out₀ log last (left - 1) (used + bytes) end t.night m₁ out₁
+  again zero e bytes t m₁ end out₁ h g r f d p q = absurd (omega arith)
+  again (suc left) e bytes t m₁ end out₁ h g r f d p q =
       let less : suc left - 1 ≡ left = omega arith in
       let fits : leb (at + 63) (length out) ≡ true = le-leb (at + 63) (length out) (omega (arith, g.room)) in
-      let l : text_of (line_of t) ≡ text_of (line_of (taken_of n memory time e bytes)) = ap (λ (x : Taken). text_of (line_of x)) f in
+      let l : text_of (line_of t) ≡ text_of (line_of (taken_of n memory e bytes)) = ap (λ (x : Taken). text_of (line_of x)) f in
       rw (less, f, d)
-      (one left time e bytes end out₁ g r
+      (one left e bytes end out₁ g r
       (p ∙ ap (λ (x : Bool). cond x (at + length (text_of (line_of t))) at) fits ∙ ap (λ (ws : List ℕ). at + length ws) l)
       (q ∙ ap (λ (x : Bool). cond x (put out at (text_of (line_of t))) out) fits ∙ ap (put out at) l))
 
   -- no entry can be read: the run ends as `stopped_at` says, which leaves the lent words
-  module _ (left : ℕ) (h : 0 < left) (g : Going which whole out₀ log last left used at n memory out) (fault : Fault) (place : ℕ)
-      (r : timed_at which (drop used log) 0 ≡ timed.Refused fault place) where
-    stops : run_of which left last (drop used log) n memory ≡ stopped_at last (drop used log) fault n memory
-    stops = run_stops which left h last (drop used log) n memory fault place r
+  module _ (left : ℕ) (h : 0 < left) (g : Going whole out₀ log last left used at n memory out) (fault : Fault) (place : ℕ)
+      (r : entry_at (drop used log) 0 ≡ reading.Refused fault place) where
+    stops : run_of left last (drop used log) n memory ≡ stopped_at last (drop used log) fault n memory
+    stops = run_stops left h last (drop used log) n memory fault place r
 
     pub stops_part : part_behind used at (stopped_at last (drop used log) fault n (lent [])) ≡ part_of whole
     stops_part = stopped_part last (drop used log) fault n used at (lent []) memory ∙ sym (g.part ∙ ap (part_behind used at) stops)
@@ -235,7 +234,7 @@ module _ {which : Log} {whole : Run} {out₀ log : List ℕ} {last : Bool} {used
         ∙ sym (g.puts ∙ ap (λ (x : Run). put out at (text x.lines)) stops)
 
   -- no line more is asked for
-  pub ends : Going which whole out₀ log last 0 used at n memory out
+  pub ends : Going whole out₀ log last 0 used at n memory out
       → ◌≡◌ {A = Part} (record { night = n; used = used; at = at; next = Lines }) (part_of whole)
       × (memory ≡ whole.memory) × (out ≡ put out₀ 0 (text whole.lines))
   unfolding run_of

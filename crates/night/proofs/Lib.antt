@@ -6,4 +6,3 @@ pub mod Streamed
 pub mod Numbered
 pub mod Drained
 pub mod Blind
-pub mod Hundred

@@ -2,10 +2,9 @@
 -- the last one. Carried by the number of entries that a night has taken. Assumes nothing.
 use Rattle.std.proofs.Common.{◌≡◌, ℕ, zero, suc, ◌%◌, ◌^◌, Bool, true, not, ◌&&◌, eqb, List, length, drop, refl, arith}
 use Rattle.benchlog.specs.declared.Fault.TheVariants.{Ends}
-use Rattle.benchlog.specs.declared.Log.{Log}
-use Rattle.benchlog.specs.declared.TimedReading.{TimedReading}
-use Rattle.benchlog.specs.declared.TimedReading.TheVariants as timed
-use Rattle.benchlog.specs.Timed.{timed_at}
+use Rattle.benchlog.specs.declared.Reading.{Reading}
+use Rattle.benchlog.specs.declared.Reading.TheVariants as reading
+use Rattle.benchlog.specs.Entries.{entry_at}
 use Rattle.benchlog.specs.Faults.{fault_number}
 use Rattle.benchlog.proofs.Places.{picked}
 use Rattle.meb.specs.Ring.{Memory}
@@ -16,21 +15,21 @@ use Rattle.night.specs.Runs.{Run, on_reading, run_of, fresh_words, listing}
 -- one entry, where the lines behind it are numbered, or none
 reading_numbered : (k : ℕ) (last : Bool) (bytes : List ℕ) (n : Night) (memory : Memory) → n.entries ≡ k % 2 ^ 64 → (f : Night → Memory → List ℕ → Run)
     → ((n₁ : Night) (m₁ : Memory) (b : List ℕ) → n₁.entries ≡ suc k % 2 ^ 64 → NumberedFrom (suc k) (f n₁ m₁ b).lines)
-    → (x : TimedReading) → NumberedFrom k (on_reading last bytes n memory x f).lines
-reading_numbered k last bytes n memory e f go (timed.Entry time entry next) =
-    (omega arith, go (onward n memory time entry next) (stepped n memory time entry).memory (drop next bytes) (omega arith))
-reading_numbered k last bytes n memory e f go (timed.Refused fault place) =
+    → (x : Reading) → NumberedFrom k (on_reading last bytes n memory x f).lines
+reading_numbered k last bytes n memory e f go (reading.Entry entry next) =
+    (omega arith, go (onward n memory entry next) (stepped n memory entry).memory (drop next bytes) (omega arith))
+reading_numbered k last bytes n memory e f go (reading.Refused fault place) =
     let P : Run → Type 0 = λ r. NumberedFrom k r.lines in
     picked P (not last && eqb (fault_number fault) (fault_number Ends)) (λ t. tt) (picked P (eqb (length bytes) 0) (λ t. tt) refl)
 
 -- every run of a night that has taken k entries
-pub run_numbered : (which : Log) (most : ℕ) (last : Bool) (bytes : List ℕ) (n : Night) (memory : Memory) (k : ℕ) → n.entries ≡ k % 2 ^ 64
-    → NumberedFrom k (run_of which most last bytes n memory).lines
+pub run_numbered : (most : ℕ) (last : Bool) (bytes : List ℕ) (n : Night) (memory : Memory) (k : ℕ) → n.entries ≡ k % 2 ^ 64
+    → NumberedFrom k (run_of most last bytes n memory).lines
 unfolding run_of
-run_numbered which zero last bytes n memory k e = tt
-run_numbered which (suc most) last bytes n memory k e =
-    reading_numbered k last bytes n memory e (λ n₁ m₁ b. run_of which most last b n₁ m₁) (λ n₁ m₁ b d. run_numbered which most last b n₁ m₁ (suc k) d) (timed_at which bytes 0)
+run_numbered zero last bytes n memory k e = tt
+run_numbered (suc most) last bytes n memory k e =
+    reading_numbered k last bytes n memory e (λ n₁ m₁ b. run_of most last b n₁ m₁) (λ n₁ m₁ b d. run_numbered most last b n₁ m₁ (suc k) d) (entry_at bytes 0)
 
 -- ---- the theorem
-pub listing_numbered : (which : Log) (log : List ℕ) → Numbered (listing which log)
-listing_numbered which log = run_numbered which (suc (length log)) true log (begun_at fresh_words) fresh_words 0 refl
+pub listing_numbered : (log : List ℕ) → Numbered (listing log)
+listing_numbered log = run_numbered (suc (length log)) true log (begun_at fresh_words) fresh_words 0 refl

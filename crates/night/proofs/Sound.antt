@@ -4,10 +4,9 @@ use Rattle.std.proofs.Common.{◌≡◌, ℕ, zero, suc, Bool, true, false, cond
 use mathlib.Core.Bool.{false≢true}
 use Rattle.benchlog.specs.declared.Entry.{Entry}
 use Rattle.benchlog.specs.declared.Fault.TheVariants.{Ends}
-use Rattle.benchlog.specs.declared.Log.{Log}
-use Rattle.benchlog.specs.declared.TimedReading.{TimedReading}
-use Rattle.benchlog.specs.declared.TimedReading.TheVariants as timed
-use Rattle.benchlog.specs.Timed.{timed_at}
+use Rattle.benchlog.specs.declared.Reading.{Reading}
+use Rattle.benchlog.specs.declared.Reading.TheVariants as reading
+use Rattle.benchlog.specs.Entries.{entry_at}
 use Rattle.benchlog.specs.Faults.{fault_number}
 use Rattle.benchlog.proofs.Places.{picked}
 use Rattle.bus.specs.declared.Answer.{Answer}
@@ -32,14 +31,14 @@ abbrev pub Sound : Night → Memory → Type 0
 Sound n memory = (formed n.v830 ≡ true) × (length memory.words ≡ n.v830.store.capacity.0)
 
 -- an entry leaves it so
-pub step_sound : (n : Night) (memory : Memory) (time : ℕ) (e : Entry) (bytes : ℕ) → Sound n memory → Sound (onward n memory time e bytes) (stepped n memory time e).memory
-step_sound n memory time e bytes s = (formed_stays time n.v830 memory (call830_of e) s.0, sound_stays time n.v830 memory (call830_of e) s.1)
+pub step_sound : (n : Night) (memory : Memory) (e : Entry) (bytes : ℕ) → Sound n memory → Sound (onward n memory e bytes) (stepped n memory e).memory
+step_sound n memory e bytes s = (formed_stays n.v830 memory (call830_of e) s.0, sound_stays n.v830 memory (call830_of e) s.1)
 
 -- the same where t is what taking the entry gave, ws the lent words then
-pub taken_sound : (n : Night) (memory : Memory) (time : ℕ) (e : Entry) (bytes : ℕ) (t : Taken) (ws : List ℕ) (x : TimedReading) → x ≡ timed.Entry time e bytes → Sound n memory
-    → t ≡ taken_of n memory time e bytes → ws ≡ (stepped n memory time e).memory.words → Sound t.night (lent ws)
-taken_sound n memory time e bytes t ws x r s p q =
-    let k = step_sound n memory time e bytes s in
+pub taken_sound : (n : Night) (memory : Memory) (e : Entry) (bytes : ℕ) (t : Taken) (ws : List ℕ) (x : Reading) → x ≡ reading.Entry e bytes → Sound n memory
+    → t ≡ taken_of n memory e bytes → ws ≡ (stepped n memory e).memory.words → Sound t.night (lent ws)
+taken_sound n memory e bytes t ws x r s p q =
+    let k = step_sound n memory e bytes s in
     (ap (λ (x : Taken). formed x.night.v830) p ∙ k.0, ap length q ∙ k.1 ∙ sym (ap (λ (x : Taken). x.night.v830.store.capacity.0) p))
 
 -- ---- what the gate asks is this
@@ -59,27 +58,27 @@ sound_gate n memory s = rw (s.0, eq-eqb (length memory.words) n.v830.store.capac
 -- ---- a run leaves it so
 reading_sound : (last : Bool) (bytes : List ℕ) (n : Night) (memory : Memory) → Sound n memory → (f : Night → Memory → List ℕ → Run)
     → ((n₁ : Night) (m₁ : Memory) (b : List ℕ) → Sound n₁ m₁ → Sound (f n₁ m₁ b).night (f n₁ m₁ b).memory)
-    → (x : TimedReading) → Sound (on_reading last bytes n memory x f).night (on_reading last bytes n memory x f).memory
-reading_sound last bytes n memory s f go (timed.Entry time e next) =
-    go (onward n memory time e next) (stepped n memory time e).memory (drop next bytes) (step_sound n memory time e next s)
-reading_sound last bytes n memory s f go (timed.Refused fault place) =
+    → (x : Reading) → Sound (on_reading last bytes n memory x f).night (on_reading last bytes n memory x f).memory
+reading_sound last bytes n memory s f go (reading.Entry e next) =
+    go (onward n memory e next) (stepped n memory e).memory (drop next bytes) (step_sound n memory e next s)
+reading_sound last bytes n memory s f go (reading.Refused fault place) =
     let P : Run → Type 0 = λ r. Sound r.night r.memory in
     picked P (not last && eqb (fault_number fault) (fault_number Ends)) (λ t. s) (picked P (eqb (length bytes) 0) (λ t. s) s)
 
-pub run_sound : (which : Log) (most : ℕ) (last : Bool) (bytes : List ℕ) (n : Night) (memory : Memory) → Sound n memory
-    → Sound (run_of which most last bytes n memory).night (run_of which most last bytes n memory).memory
+pub run_sound : (most : ℕ) (last : Bool) (bytes : List ℕ) (n : Night) (memory : Memory) → Sound n memory
+    → Sound (run_of most last bytes n memory).night (run_of most last bytes n memory).memory
 unfolding run_of
-run_sound which zero last bytes n memory s = s
-run_sound which (suc most) last bytes n memory s =
-    reading_sound last bytes n memory s (λ n₁ m₁ b. run_of which most last b n₁ m₁) (λ n₁ m₁ b h. run_sound which most last b n₁ m₁ h) (timed_at which bytes 0)
+run_sound zero last bytes n memory s = s
+run_sound (suc most) last bytes n memory s =
+    reading_sound last bytes n memory s (λ n₁ m₁ b. run_of most last b n₁ m₁) (λ n₁ m₁ b h. run_sound most last b n₁ m₁ h) (entry_at bytes 0)
 
 -- ---- replayed, a night that the gate lets pass is run, and another one is refused
-module _ (which : Log) (out : List ℕ) (last : Bool) (bytes : List ℕ) (n : Night) (memory : Memory) where
+module _ (out : List ℕ) (last : Bool) (bytes : List ℕ) (n : Night) (memory : Memory) where
   asked : (b : Bool) → is_done (gate_of n.v830 memory) ≡ b
-      → replay_for which out last bytes n memory ≡ cond b (run_for which out last bytes n memory) (ends_here [] (Refused (gate_of n.v830 memory)) n memory)
-  asked b e = ap (λ (x : Bool). cond x (run_for which out last bytes n memory) (ends_here [] (Refused (gate_of n.v830 memory)) n memory)) e
+      → replay_for out last bytes n memory ≡ cond b (run_for out last bytes n memory) (ends_here [] (Refused (gate_of n.v830 memory)) n memory)
+  asked b e = ap (λ (x : Bool). cond x (run_for out last bytes n memory) (ends_here [] (Refused (gate_of n.v830 memory)) n memory)) e
 
-  pub passed : gate_of n.v830 memory ≡ Done 0 → replay_for which out last bytes n memory ≡ run_for which out last bytes n memory
+  pub passed : gate_of n.v830 memory ≡ Done 0 → replay_for out last bytes n memory ≡ run_for out last bytes n memory
   passed e = asked true (ap is_done e)
 
   -- in the words of the code: the answer of the gate, and its number
@@ -87,10 +86,10 @@ module _ (which : Log) (out : List ℕ) (last : Bool) (bytes : List ℕ) (n : Ni
     pub lets_pass : number ≡ 0 → is_done (gate_of n.v830 memory) ≡ true
     lets_pass z = eq-eqb (number_of (gate_of n.v830 memory)) 0 (sym (ap number_of a) ∙ sym k ∙ z)
 
-    pub passes : number ≡ 0 → run_for which out last bytes n memory ≡ replay_for which out last bytes n memory
+    pub passes : number ≡ 0 → run_for out last bytes n memory ≡ replay_for out last bytes n memory
     passes z = sym (asked true (lets_pass z))
 
-    pub refuses : (number ≡ 0 → ⊥) → ends_here [] (Refused answer) n memory ≡ replay_for which out last bytes n memory
+    pub refuses : (number ≡ 0 → ⊥) → ends_here [] (Refused answer) n memory ≡ replay_for out last bytes n memory
     refuses z =
         ap (λ (x : Answer). ends_here [] (Refused x) n memory) a
         ∙ sym (asked false (ne_eqb (number_of (gate_of n.v830 memory)) 0 (λ e. z (k ∙ ap number_of a ∙ e))))

@@ -3,7 +3,6 @@
 -- Assumes nothing.
 use Rattle.std.proofs.Common.{◌≡◌, ℕ, suc, ◌/◌, Bool, true, false, cond, List, [], ◌∷◌, ◌++◌, length, drop, sym, ap, ◌∙◌, append_assoc, append-nil, arith}
 use mathlib.Core.Bool.{false≢true}
-use Rattle.benchlog.specs.declared.Log.{Log}
 use Rattle.bus.specs.declared.Answer.TheVariants.{Done}
 use Rattle.bus.specs.Answers.{is_done}
 use Rattle.meb.specs.Ring.{Memory}
@@ -27,44 +26,44 @@ turned_lines (Faulted number) ls rest behind h o = sym (append-nil ls)
 turned_lines (Refused why) ls rest behind h o = absurd (false≢true o)
 
 -- what a run and the turns behind it show
-abbrev shown_by : Log → Run → List ℕ → List Turn → Streamed
-shown_by which r bytes ts = turned r.next r.lines (streamed which r.night r.memory (drop r.used bytes) ts)
+abbrev shown_by : Run → List ℕ → List Turn → Streamed
+shown_by r bytes ts = turned r.next r.lines (streamed r.night r.memory (drop r.used bytes) ts)
 
 -- a night's run, where the gate lets it pass
-abbrev passing : Log → Bool → List ℕ → Bool → List ℕ → Night → Memory → Run
-passing which b out last bytes n memory = cond b (run_for which out last bytes n memory) (ends_here [] (Refused (gate_of n.v830 memory)) n memory)
+abbrev passing : Bool → List ℕ → Bool → List ℕ → Night → Memory → Run
+passing b out last bytes n memory = cond b (run_for out last bytes n memory) (ends_here [] (Refused (gate_of n.v830 memory)) n memory)
 
 -- from any night, with any lent words and bytes held back; one that is refused does not come to its end
-pub streamed_is_whole : (which : Log) (ts : List Turn) (n : Night) (memory : Memory) (held : List ℕ) → Fed ts → (streamed which n memory held ts).over ≡ true
-    → (streamed which n memory held ts).lines ≡ lines_of which (held ++ all_bytes ts) n memory
+pub streamed_is_whole : (ts : List Turn) (n : Night) (memory : Memory) (held : List ℕ) → Fed ts → (streamed n memory held ts).over ≡ true
+    → (streamed n memory held ts).lines ≡ lines_of (held ++ all_bytes ts) n memory
 unfolding streamed all_bytes
-streamed_is_whole which [] n memory held f o = absurd (false≢true o)
-streamed_is_whole which (t ∷ ts) n memory held f o = go (is_done (gate_of n.v830 memory)) (λ n₁ m₁ h. streamed_is_whole which ts n₁ m₁ h f.1) o
+streamed_is_whole [] n memory held f o = absurd (false≢true o)
+streamed_is_whole (t ∷ ts) n memory held f o = go (is_done (gate_of n.v830 memory)) (λ n₁ m₁ h. streamed_is_whole ts n₁ m₁ h f.1) o
   where
     go : (b : Bool)
-        → ((n₁ : Night) (m₁ : Memory) (h : List ℕ) → (streamed which n₁ m₁ h ts).over ≡ true → (streamed which n₁ m₁ h ts).lines ≡ lines_of which (h ++ all_bytes ts) n₁ m₁)
-        → (shown_by which (passing which b t.out t.last (held ++ t.bytes) n memory) (held ++ t.bytes) ts).over ≡ true
-        → (shown_by which (passing which b t.out t.last (held ++ t.bytes) n memory) (held ++ t.bytes) ts).lines ≡ lines_of which (held ++ (t.bytes ++ all_bytes ts)) n memory
+        → ((n₁ : Night) (m₁ : Memory) (h : List ℕ) → (streamed n₁ m₁ h ts).over ≡ true → (streamed n₁ m₁ h ts).lines ≡ lines_of (h ++ all_bytes ts) n₁ m₁)
+        → (shown_by (passing b t.out t.last (held ++ t.bytes) n memory) (held ++ t.bytes) ts).over ≡ true
+        → (shown_by (passing b t.out t.last (held ++ t.bytes) n memory) (held ++ t.bytes) ts).lines ≡ lines_of (held ++ (t.bytes ++ all_bytes ts)) n memory
     go true rest o =
         let bytes : List ℕ = held ++ t.bytes in
-        let r : Run = run_for which t.out t.last bytes n memory in
+        let r : Run = run_for t.out t.last bytes n memory in
         let left : List ℕ = drop r.used bytes in
-        turned_lines r.next r.lines (streamed which r.night r.memory left ts) (lines_of which (left ++ all_bytes ts) r.night r.memory)
+        turned_lines r.next r.lines (streamed r.night r.memory left ts) (lines_of (left ++ all_bytes ts) r.night r.memory)
         (rest r.night r.memory left) o
-        ∙ sym (continued which (all_bytes ts) t.last f.0 (length t.out / 63) (suc (length (bytes ++ all_bytes ts))) bytes n memory (omega arith))
-        ∙ ap (λ (b : List ℕ). lines_of which b n memory) (append_assoc held t.bytes (all_bytes ts))
+        ∙ sym (continued (all_bytes ts) t.last f.0 (length t.out / 63) (suc (length (bytes ++ all_bytes ts))) bytes n memory (omega arith))
+        ∙ ap (λ (b : List ℕ). lines_of b n memory) (append_assoc held t.bytes (all_bytes ts))
     go false rest o = absurd (false≢true o)
 
 -- ---- the theorem: under the first line
-pub streamed_is_the_listing : (which : Log) (ts : List Turn) → Fed ts
-    → (streamed which (begun_at fresh_words) fresh_words [] ts).over ≡ true
-    → Heading ∷ (streamed which (begun_at fresh_words) fresh_words [] ts).lines ≡ listing which (all_bytes ts)
-streamed_is_the_listing which ts f o = ap (λ (ls : List Line). Heading ∷ ls) (streamed_is_whole which ts (begun_at fresh_words) fresh_words [] f o)
+pub streamed_is_the_listing : (ts : List Turn) → Fed ts
+    → (streamed (begun_at fresh_words) fresh_words [] ts).over ≡ true
+    → Heading ∷ (streamed (begun_at fresh_words) fresh_words [] ts).lines ≡ listing (all_bytes ts)
+streamed_is_the_listing ts f o = ap (λ (ls : List Line). Heading ∷ ls) (streamed_is_whole ts (begun_at fresh_words) fresh_words [] f o)
 
 -- ---- the theorem: a night that the gate lets pass is such a night after every run, so that no turn behind it is
 -- refused
-pub run_keeps : (which : Log) (most : ℕ) (last : Bool) (bytes : List ℕ) (n : Night) (memory : Memory) → gate_of n.v830 memory ≡ Done 0
-    → gate_of (run_of which most last bytes n memory).night.v830 (run_of which most last bytes n memory).memory ≡ Done 0
-run_keeps which most last bytes n memory e =
-    let r : Run = run_of which most last bytes n memory in
-    sound_gate r.night r.memory (run_sound which most last bytes n memory (gate_sound n memory (ap is_done e)))
+pub run_keeps : (most : ℕ) (last : Bool) (bytes : List ℕ) (n : Night) (memory : Memory) → gate_of n.v830 memory ≡ Done 0
+    → gate_of (run_of most last bytes n memory).night.v830 (run_of most last bytes n memory).memory ≡ Done 0
+run_keeps most last bytes n memory e =
+    let r : Run = run_of most last bytes n memory in
+    sound_gate r.night r.memory (run_sound most last bytes n memory (gate_sound n memory (ap is_done e)))

@@ -39,28 +39,27 @@ text (l ∷ ls) = text_of l ++ text ls
 abbrev pub begun_at : Memory → Night
 begun_at memory = record { v830 = (started 0 memory).state; entries = 0; place = 0 }
 
--- "The run is the module's steps in the log's order and nothing else": one entry, one step, so much time after the one
--- before
-abbrev pub stepped : Night → Memory → ℕ → Entry → Step
-stepped n memory time e = step_of time n.v830 memory (call830_of e)
+-- "The run is the module's steps in the log's order and nothing else": one entry, one step
+abbrev pub stepped : Night → Memory → Entry → Step
+stepped n memory e = step_of n.v830 memory (call830_of e)
 
--- the night after an entry of so many bytes, its time included; entries and places are counted in 64 bits
-abbrev pub onward : Night → Memory → ℕ → Entry → ℕ → Night
-onward n memory time e bytes =
+-- the night after an entry of so many bytes; entries and places are counted in 64 bits
+abbrev pub onward : Night → Memory → Entry → ℕ → Night
+onward n memory e bytes =
     record {
-      v830 = (stepped n memory time e).outcome.state;
+      v830 = (stepped n memory e).outcome.state;
       entries = (n.entries + 1) % 2 ^ 64;
       place = (n.place + bytes) % 2 ^ 64;
     }
 
 -- an entry taken: the night after it, and its line's three numbers
-abbrev pub taken_of : Night → Memory → ℕ → Entry → ℕ → Taken
-taken_of n memory time e bytes =
+abbrev pub taken_of : Night → Memory → Entry → ℕ → Taken
+taken_of n memory e bytes =
     record {
-      night = onward n memory time e bytes;
+      night = onward n memory e bytes;
       entry = (n.entries + 1) % 2 ^ 64;
-      answer = number_of (stepped n memory time e).outcome.answer;
-      value = value_of (stepped n memory time e).outcome.answer;
+      answer = number_of (stepped n memory e).outcome.answer;
+      value = value_of (stepped n memory e).outcome.answer;
     }
 
 -- its line

@@ -1,13 +1,12 @@
--- The run of a log, a part of it or the whole, and its listing (document 02, M-100 and M-101; docs/FORMATS.md,
--- `replay` and `replay_timed`): one definition for the old log and the timed one. Assumes nothing.
+-- The run of a log, a part of it or the whole, and its listing (document 02, M-100; docs/FORMATS.md, `replay`).
+-- Assumes nothing.
 use Rattle.std.specs.Prelude.{ℕ, zero, suc, ◌+◌, ◌/◌, Bool, true, cond, not, ◌&&◌, List, [], ◌∷◌, length, drop, replicate, ◌==◌}
 use Rattle.benchlog.specs.declared.Fault.{Fault}
 use Rattle.benchlog.specs.declared.Fault.TheVariants.{Ends}
-use Rattle.benchlog.specs.declared.Log.{Log}
-use Rattle.benchlog.specs.declared.TimedReading.{TimedReading}
-use Rattle.benchlog.specs.declared.TimedReading.TheVariants as timed
+use Rattle.benchlog.specs.declared.Reading.{Reading}
+use Rattle.benchlog.specs.declared.Reading.TheVariants as reading
+use Rattle.benchlog.specs.Entries.{entry_at}
 use Rattle.benchlog.specs.Faults.{fault_number}
-use Rattle.benchlog.specs.Timed.{timed_at}
 use Rattle.night.specs.declared.Night.{Night}
 use Rattle.night.specs.declared.Next.{Next}
 use Rattle.night.specs.declared.Next.TheVariants.{Lines, Bytes, Nothing, Faulted, Refused}
@@ -42,41 +41,39 @@ stopped_at last bytes fault n memory =
     (cond (length bytes == 0) (ends_here [] Nothing n memory)
     (ends_here (Faulty (fault_number fault) n.place ∷ []) (Faulted (fault_number fault)) n memory))
 
--- an entry is read, with its time, or none
-abbrev pub on_reading : Bool → List ℕ → Night → Memory → TimedReading → (Night → Memory → List ℕ → Run) → Run
-on_reading last bytes n memory (timed.Entry time e next) rest =
-    before (line_of (taken_of n memory time e next)) next (rest (onward n memory time e next) (stepped n memory time e).memory (drop next bytes))
-on_reading last bytes n memory (timed.Refused fault place) rest = stopped_at last bytes fault n memory
+-- an entry is read, or none
+abbrev pub on_reading : Bool → List ℕ → Night → Memory → Reading → (Night → Memory → List ℕ → Run) → Run
+on_reading last bytes n memory (reading.Entry e next) rest =
+    before (line_of (taken_of n memory e next)) next (rest (onward n memory e next) (stepped n memory e).memory (drop next bytes))
+on_reading last bytes n memory (reading.Refused fault place) rest = stopped_at last bytes fault n memory
 
--- at most so many lines of the bytes at hand, which are the log's last ones or not; the entries of an old log are 100
--- steps apart, by what reading one gives
-unfoldable pub run_of : Log → ℕ → Bool → List ℕ → Night → Memory → Run
-run_of which zero last bytes n memory = ends_here [] Lines n memory
-run_of which (suc most) last bytes n memory =
-    on_reading last bytes n memory (timed_at which bytes 0) (λ n₁ memory₁ bytes₁. run_of which most last bytes₁ n₁ memory₁)
+-- at most so many lines of the bytes at hand, which are the log's last ones or not
+unfoldable pub run_of : ℕ → Bool → List ℕ → Night → Memory → Run
+run_of zero last bytes n memory = ends_here [] Lines n memory
+run_of (suc most) last bytes n memory = on_reading last bytes n memory (entry_at bytes 0) (λ n₁ memory₁ bytes₁. run_of most last bytes₁ n₁ memory₁)
 
 -- as many lines as surely fit a buffer: a line has at most 63 bytes, three numbers of 20 digits and what follows each
-abbrev pub run_for : Log → List ℕ → Bool → List ℕ → Night → Memory → Run
-run_for which out last bytes n memory = run_of which (length out / 63) last bytes n memory
+abbrev pub run_for : List ℕ → Bool → List ℕ → Night → Memory → Run
+run_for out last bytes n memory = run_of (length out / 63) last bytes n memory
 
 -- 12 and 10 are asked once: a night whose module is malformed, or whose memory has another length, gets its number,
 -- and nothing of the log is run
-abbrev pub replay_for : Log → List ℕ → Bool → List ℕ → Night → Memory → Run
-replay_for which out last bytes n memory =
-    cond (is_done (gate_of n.v830 memory)) (run_for which out last bytes n memory) (ends_here [] (Refused (gate_of n.v830 memory)) n memory)
+abbrev pub replay_for : List ℕ → Bool → List ℕ → Night → Memory → Run
+replay_for out last bytes n memory =
+    cond (is_done (gate_of n.v830 memory)) (run_for out last bytes n memory) (ends_here [] (Refused (gate_of n.v830 memory)) n memory)
 
 -- the lines of a log's bytes, to its end: an entry has a byte at least, so that there are no more lines than bytes
 -- and one for a fault
-abbrev pub lines_of : Log → List ℕ → Night → Memory → List Line
-lines_of which log n memory = (run_of which (suc (length log)) true log n memory).lines
+abbrev pub lines_of : List ℕ → Night → Memory → List Line
+lines_of log n memory = (run_of (suc (length log)) true log n memory).lines
 
 -- "a fresh module with GEO 0 and 16,384 words"
 abbrev pub fresh_words : Memory
 fresh_words = lent (replicate 16384 0)
 
 -- the listing of a log
-abbrev pub listing : Log → List ℕ → List Line
-listing which log = Heading ∷ lines_of which log (begun_at fresh_words) fresh_words
+abbrev pub listing : List ℕ → List Line
+listing log = Heading ∷ lines_of log (begun_at fresh_words) fresh_words
 
 -- what is answered of a run, behind so many bytes used and so many put out
 abbrev pub part_behind : ℕ → ℕ → Run → Part

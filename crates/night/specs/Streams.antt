@@ -1,6 +1,5 @@
 -- The listing of a log that is streamed: shown turn by turn, however the log is cut into pieces. Assumes nothing.
 use Rattle.std.specs.Prelude.{◌≡◌, ℕ, ◌≤◌, Bool, true, false, List, [], ◌∷◌, ◌++◌, length, drop}
-use Rattle.benchlog.specs.declared.Log.{Log}
 use Rattle.meb.specs.Ring.{Memory}
 use Rattle.night.specs.declared.Night.{Night}
 use Rattle.night.specs.declared.Next.{Next}
@@ -30,11 +29,11 @@ turned (Refused why) ls rest = record { lines = ls; over = false }
 
 -- the turns of a night with these lent words, each of the bytes that the one before it left and those read on; `held`
 -- are left before the first
-unfoldable pub streamed : Log → Night → Memory → List ℕ → List Turn → Streamed
-streamed which n memory held [] = record { lines = []; over = false }
-streamed which n memory held (t ∷ ts) =
-    let r : Run = replay_for which t.out t.last (held ++ t.bytes) n memory in
-    turned r.next r.lines (streamed which r.night r.memory (drop r.used (held ++ t.bytes)) ts)
+unfoldable pub streamed : Night → Memory → List ℕ → List Turn → Streamed
+streamed n memory held [] = record { lines = []; over = false }
+streamed n memory held (t ∷ ts) =
+    let r : Run = replay_for t.out t.last (held ++ t.bytes) n memory in
+    turned r.next r.lines (streamed r.night r.memory (drop r.used (held ++ t.bytes)) ts)
 
 -- all that is read on
 unfoldable pub all_bytes : List Turn → List ℕ

@@ -12,7 +12,7 @@ ghost use Rattle.night.specs.Runs.{replay_for, run_for, part_of, part_behind, st
 mod tally;
 
 use crate::tally::{counted_to, counted_up, put_entry};
-use benchlog::{Entry, Fault, Log, Reading};
+use benchlog::{Entry, Fault, Reading};
 use bus::Answer;
 use v830::V830;
 
@@ -73,14 +73,13 @@ pub fn put_heading(out: &mut [u8], at: usize) -> usize
     text::put_text(out, at, b"entry answer value\n")
 }
 
-// Takes one entry, of so many bytes, so much time after the one before: one step of the module, and the line's three
-// numbers.
-fn take(night: Night, memory: &mut [u32], time: u32, entry: Entry, bytes: usize) -> Taken
+// Takes one entry, of so many bytes: one step of the module, and the line's three numbers.
+fn take(night: Night, memory: &mut [u32], entry: Entry, bytes: usize) -> Taken
     requires { (formed night.v830 ≡ true) × (length memory.old ≡ night.v830.store.capacity.0) }
-    ensures { (result ≡ taken_of night (lent memory.old) time entry bytes) × (memory.new ≡ (stepped night (lent memory.old) time entry).memory.words) }
+    ensures { (result ≡ taken_of night (lent memory.old) entry bytes) × (memory.new ≡ (stepped night (lent memory.old) entry).memory.words) }
 {
     let before = night.v830;
-    let o = v830::step_formed(before, time, memory, logged::call_830_of(entry));
+    let o = v830::step_formed(before, memory, logged::call_830_of(entry));
     let answer = o.answer;
     let reply = bus::numbered(answer);
     let v830 = o.state;
@@ -98,30 +97,23 @@ fn take(night: Night, memory: &mut [u32], time: u32, entry: Entry, bytes: usize)
     }
 }
 
-// Replays what is at hand of a log, old or timed, `last` where nothing follows it: as many lines as surely fit the
-// buffer. 12 and 10 are asked once, here.
-pub fn replay(
-    which: Log,
-    night: Night,
-    memory: &mut [u32],
-    log: &[u8],
-    last: bool,
-    out: &mut [u8],
-) -> Part
-    ensures { (result ≡ part_of (replay_for which out.old last log.now night (lent memory.old))) × (memory.new ≡ (replay_for which out.old last log.now night (lent memory.old)).memory.words) × (out.new ≡ put out.old 0 (text (replay_for which out.old last log.now night (lent memory.old)).lines)) }
+// Replays what is at hand of a log, `last` where nothing follows it: as many lines as surely fit the buffer. 12 and
+// 10 are asked once, here.
+pub fn replay(night: Night, memory: &mut [u32], log: &[u8], last: bool, out: &mut [u8]) -> Part
+    ensures { (result ≡ part_of (replay_for out.old last log.now night (lent memory.old))) × (memory.new ≡ (replay_for out.old last log.now night (lent memory.old)).memory.words) × (out.new ≡ put out.old 0 (text (replay_for out.old last log.now night (lent memory.old)).lines)) }
 {
     let v830 = night.v830;
     let answer = v830::gate(v830, memory);
     if bus::numbered(answer).number != 0 {
         return here(night, 0, 0, Next::Refused(answer));
     }
-    run(which, night, memory, log, last, out)
+    run(night, memory, log, last, out)
 }
 
 // The same of a night whose module is not malformed and has its memory, which each entry leaves so.
-fn run(which: Log, night: Night, memory: &mut [u32], log: &[u8], last: bool, out: &mut [u8]) -> Part
+fn run(night: Night, memory: &mut [u32], log: &[u8], last: bool, out: &mut [u8]) -> Part
     requires { (formed night.v830 ≡ true) × (length memory.old ≡ night.v830.store.capacity.0) }
-    ensures { (result ≡ part_of (run_for which out.old last log.now night (lent memory.old))) × (memory.new ≡ (run_for which out.old last log.now night (lent memory.old)).memory.words) × (out.new ≡ put out.old 0 (text (run_for which out.old last log.now night (lent memory.old)).lines)) }
+    ensures { (result ≡ part_of (run_for out.old last log.now night (lent memory.old))) × (memory.new ≡ (run_for out.old last log.now night (lent memory.old)).memory.words) × (out.new ≡ put out.old 0 (text (run_for out.old last log.now night (lent memory.old)).lines)) }
 {
     let mut now = night;
     let mut used: usize = 0;
@@ -129,14 +121,12 @@ fn run(which: Log, night: Night, memory: &mut [u32], log: &[u8], last: bool, out
     let mut left = out.len() / 63;
     let mut number = counted_to(night.entries);
     while left > 0 {
-        let read = benchlog::read_in_time(which, &log[used..], 0);
-        let reading = read.reading;
-        match reading {
+        match benchlog::read_entry(&log[used..], 0) {
             Reading::Refused(fault, _) => {
                 return stop(now, &log[used..], last, fault, used, out, at);
             }
             Reading::Entry(entry, bytes) => {
-                let taken = take(now, memory, read.time, entry, bytes);
+                let taken = take(now, memory, entry, bytes);
                 now = taken.night;
                 number = counted_up(number);
                 at = put_entry(out, at, number, taken.answer, taken.value);

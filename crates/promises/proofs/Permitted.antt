@@ -2,8 +2,8 @@
 -- function's contract, as the check reads it off the function's own clauses (`Post`). By `determined`, since each
 -- contract is an equation with what a definition gives for the input. Not here, because what they give depends on what
 -- the system reads or on whether it writes, of which no equation can speak: `stdio::refill`, `stdio::read_on`,
--- `stdio::flush`, `stdio::make_room`, `head::begin` and `replaying::turn`, which reads on by `stdio::read_on`
--- (docs/PROMISES.md says of each what that leaves open). Assumes nothing.
+-- `stdio::flush`, `stdio::make_room` and `head::begin` (docs/PROMISES.md says of each what that leaves open). Assumes
+-- nothing.
 use Prim.Native.Nat.{ℕ}
 use mathlib.Core.Path.{ap₂}
 use mathlib.Core.List.{List}
@@ -26,8 +26,6 @@ use Rattle.bus.proofs.numbered.Reads as bus-numbered
 use Rattle.bus.proofs.table.look_up.Reads as bus-look-up
 use Rattle.benchlog.proofs.read_argument.Reads as benchlog-read-argument
 use Rattle.benchlog.proofs.read_entry.Reads as benchlog-read-entry
-use Rattle.benchlog.proofs.read_timed.Reads as benchlog-read-timed
-use Rattle.benchlog.proofs.read_in_time.Reads as benchlog-read-in-time
 use Rattle.benchlog.proofs.fault_number.Reads as benchlog-fault-number
 use Rattle.benchlog.proofs.numbers_of.Reads as benchlog-numbers-of
 use Rattle.benchlog.proofs.read_number.Reads as benchlog-read-number
@@ -150,12 +148,6 @@ one_benchlog_read_argument κ given first second e d p q = determined p q
 
 pub one_benchlog_read_entry : OneResult benchlog-read-entry.Post
 one_benchlog_read_entry κ given first second e d p q = determined p q
-
-pub one_benchlog_read_timed : OneResult benchlog-read-timed.Post
-one_benchlog_read_timed κ given first second e d p q = determined p q
-
-pub one_benchlog_read_in_time : OneResult benchlog-read-in-time.Post
-one_benchlog_read_in_time κ given first second e d p q = determined p q
 
 pub one_benchlog_fault_number : OneResult benchlog-fault-number.Post
 one_benchlog_fault_number κ given first second e d p q = determined p q
@@ -285,7 +277,7 @@ pub one_v260_in_place_step : {M : Type 1} → OneLent {M = M} v260-in-place-step
 one_v260_in_place_step 𝓤 𝓛 mem run κ given g first second e d = both_determined 𝓤 _ _ _ _ _ _
 
 -- ---- v830
-pub one_v830_step : OneOutcome v830-step.Post (λ κ e. e.1.1.0.now)
+pub one_v830_step : OneOutcome v830-step.Post (λ κ e. e.1.0.now)
 one_v830_step κ given first second e d p q = (determined p.0 q.0, determined p.1 q.1)
 
 pub one_v830_start : OneResult v830-start.Post
@@ -295,7 +287,7 @@ pub one_v830_gate : OneResult v830-gate.Post
 one_v830_gate κ given first second e d p q = determined p q
 
 -- the inner door, of what it is given where it may be called
-pub one_v830_step_formed : OneOutcome v830-step-formed.Post (λ κ e. e.1.1.0.now)
+pub one_v830_step_formed : OneOutcome v830-step-formed.Post (λ κ e. e.1.0.now)
 one_v830_step_formed κ given first second e d p q = (determined p.0 q.0, determined p.1 q.1)
 
 -- ---- meb
@@ -342,7 +334,7 @@ pub one_night_put_heading : OneOutcome night-put-heading.Post (λ κ e. e.0.now)
 one_night_put_heading κ given first second e d p q = (determined p.0 q.0, determined p.1 q.1)
 
 -- two slices are lent to it
-pub one_night_replay : OneOutcome {A = λ κ. List ℕ × List ℕ} night-replay.Post (λ κ e. (e.1.1.0.now, e.1.1.1.1.1.0.now))
+pub one_night_replay : OneOutcome {A = λ κ. List ℕ × List ℕ} night-replay.Post (λ κ e. (e.1.0.now, e.1.1.1.1.0.now))
 one_night_replay κ given first second e d p q =
     (determined p.0 q.0, ap₂ (λ (m o : List ℕ). (m, o)) (determined p.1 q.1) (determined p.2 q.2))
 

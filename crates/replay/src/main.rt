@@ -1,6 +1,66 @@
-// Replays a night on a V830: the answer and the value read of each entry of an old bench log.
-use benchlog::Log;
-use replaying::Course;
+// Replays a night on a V830: the answer and the value read of each entry of a bench log.
+ghost use Rattle.std.specs.Prelude.{◌≡◌, ◌≤◌, length};
+
+use bus::Answer;
+use night::{Next, Night};
+use stdio::{Amiss, Listing};
+
+// A listing under way: where it stands in the buffers, and the night.
+#[derive(Drop)]
+struct Course {
+    listing: Listing,
+    night: Night,
+}
+
+// Ends a listing whose last line is that of a fault.
+fn faulted(l: Listing, number: u32) -> Listing
+    ensures { (result.used ≡ l.used) × (result.have ≡ l.have) }
+{
+    stdio::stop(l, Amiss::Fault(number, stdio::place(l, l.used)))
+}
+
+// Ends a listing whose night is refused. One that begins here never is (`begun_passes`, `run_keeps`).
+fn refused(l: Listing, answer: Answer) -> Listing
+    ensures { (result.used ≡ l.used) × (result.have ≡ l.have) }
+{
+    let reply = bus::numbered(answer);
+    stdio::stop(l, Amiss::Refused(reply.number, stdio::place(l, l.used)))
+}
+
+// Goes on behind the part that was shown: reads on where it wants bytes, ends where nothing is next.
+fn gone_on(buf: &mut [u8], l: Listing, next: Next) -> Listing
+    requires { (l.used ≤ l.have) × (l.have ≤ length buf.old) }
+    ensures { (result.used ≤ result.have) × (result.have ≤ length buf.old) }
+{
+    match next {
+        Next::Lines => l,
+        Next::Bytes => stdio::read_on(buf, l),
+        Next::Nothing => stdio::stop(l, Amiss::Nothing),
+        Next::Faulted(number) => faulted(l, number),
+        Next::Refused(answer) => refused(l, answer),
+    }
+}
+
+// Shows a part of the listing and goes on behind it.
+fn turn(buf: &mut [u8], out: &mut [u8], memory: &mut [u32], course: Course) -> Course
+    requires { (course.listing.used ≤ course.listing.have) × (course.listing.have ≤ length buf.old) }
+    ensures { (result.listing.used ≤ result.listing.have) × (result.listing.have ≤ length buf.old) }
+{
+    let mut l = course.listing;
+    let night = course.night;
+    let used = l.used;
+    let have = l.have;
+    let part = night::replay(night, memory, &buf[used..have], l.ended, out);
+    l.at = part.at;
+    l.used = used + part.used;
+    let shown = stdio::flush(out, l);
+    let next = part.next;
+    let after = part.night;
+    Course {
+        listing: gone_on(buf, shown, next),
+        night: after,
+    }
+}
 
 // The whole listing.
 fn run(buf: &mut [u8], out: &mut [u8], memory: &mut [u32]) {
@@ -12,7 +72,7 @@ fn run(buf: &mut [u8], out: &mut [u8], memory: &mut [u32]) {
     };
     let mut turns = stdio::TURNS;
     while turns > 0 && course.listing.more {
-        course = replaying::turn(Log::Old, buf, out, memory, course);
+        course = turn(buf, out, memory, course);
         turns -= 1;
     }
     let last = course.listing;

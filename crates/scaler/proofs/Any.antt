@@ -17,17 +17,17 @@ any_start does n = record { within = omega arith; same = rw sub-zero }
 
 module _ {does : ℕ → Bool} {n k : ℕ} (e : Looking does n k) (h : k < n) where
   -- n - k of one channel more
-  one_more_lem : n - k ≡ suc (n - (k + 1))
-  one_more_lem = omega arith
+  one_more : n - k ≡ suc (n - (k + 1))
+  one_more = omega arith
 
   pub any_found : does k ≡ true → any_from 0 n does ≡ true
   unfolding any_from
-  any_found d = sym e.same ∙ rw (one_more_lem, d)
+  any_found d = sym e.same ∙ rw (one_more, d)
 
   pub any_missed : does k ≡ false → Looking does n (k + 1)
   unfolding any_from
   any_missed d =
-      let t : any_from (suc k) (n - (k + 1)) does ≡ any_from 0 n does = rw (one_more_lem, d) at e.same in
+      let t : any_from (suc k) (n - (k + 1)) does ≡ any_from 0 n does = rw (one_more, d) at e.same in
       record { within = omega arith; same = rw (← add-one) at t }
 
 pub any_over : {does : ℕ → Bool} {n k : ℕ} → Looking does n k → n ≤ k → any_from 0 n does ≡ false

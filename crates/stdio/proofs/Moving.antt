@@ -3,8 +3,8 @@
 use Rattle.std.proofs.Common.{◌≡◌, ℕ, zero, suc, ◌+◌, ◌<◌, eqb, List, length, get_or, take, drop, set, sym, refl, ap, ◌∙◌, add-one, arith, length-drop, length-set, get_or-drop, take-suc, drop-drop, take-suc-set, drop-set-lt, eq-eqb, ne_eqb}
 
 -- one more of the elements of a list is stored behind those that are there
-pub one_more_lem : (l a : List ℕ) (i v : ℕ) → i < length a → i < length l → v ≡ get_or l i 0 → take i a ≡ take i l → take (i + 1) (set a i v) ≡ take (i + 1) l
-one_more_lem l a i v h k e before = rw (add-one, take-suc-set a i v h, before, e) (sym (take-suc l i 0 k))
+pub one_more : (l a : List ℕ) (i v : ℕ) → i < length a → i < length l → v ≡ get_or l i 0 → take i a ≡ take i l → take (i + 1) (set a i v) ≡ take (i + 1) l
+one_more l a i v h k e before = rw (add-one, take-suc-set a i v h, before, e) (sym (take-suc l i 0 k))
 
 -- of buf₀'s bytes from `used` on the first i stand at the front of buf; behind them nothing has changed
 pub record Moved (buf₀ : List ℕ) (used : ℕ) (buf : List ℕ) (i : ℕ) : Type 0 where
@@ -30,7 +30,7 @@ one buf₀ used buf i h m =
     let l : i < length buf = omega (arith, m.len) in
     record {
       len = length-set buf i v ∙ m.len;
-      front = one_more_lem (drop used buf₀) buf i v l (rw length-drop (omega arith)) same m.front;
+      front = one_more (drop used buf₀) buf i v l (rw length-drop (omega arith)) same m.front;
       behind = drop-set-lt (i + 1) buf i v (omega arith) ∙ sym (drop-drop 1 i buf) ∙ ap (drop 1) m.behind ∙ drop-drop 1 i buf₀;
     }
 

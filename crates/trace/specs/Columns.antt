@@ -36,13 +36,13 @@ numbers560 entry t =
     let s : Scales = t.v560.scales in
     (entry ∷ first_of t.answer t.interrupter s) ++ own_of t.v560 ++ s.counts ++ s.latches
 
--- `answer value geo control enable triggers veto capacity first stored steps`
+-- `answer value geo control enable triggers veto capacity first stored`
 abbrev pub first_of830 : Answer → V830 → List ℕ
 first_of830 answer s =
     number_of answer ∷ value_of answer
     ∷ s.geo ∷ s.control ∷ s.enable ∷ s.tallies.triggers ∷ one_or_zero s.veto
-    ∷ s.store.capacity.0 ∷ s.store.first ∷ s.store.stored.0 ∷ s.clock.steps ∷ []
+    ∷ s.store.capacity.0 ∷ s.store.first ∷ s.store.stored.0 ∷ []
 
--- `entry answer .. steps c0 .. c31`
+-- `entry answer .. stored c0 .. c31`
 abbrev pub numbers830 : ℕ → Held → List ℕ
 numbers830 entry t = (entry ∷ first_of830 t.answer t.v830) ++ t.v830.counts

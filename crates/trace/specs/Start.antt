@@ -1,9 +1,7 @@
 -- How a trace begins; docs/FORMATS.md, `trace`: "a head of numbers .. The head's first number names the module."
 -- Assumes nothing.
-use Rattle.std.specs.Prelude.{ℕ, ◌-◌, ◌^◌, cond, ◌||◌, List, [], ◌∷◌, replicate, ◌==◌, slice_index}
+use Rattle.std.specs.Prelude.{ℕ, ◌-◌, ◌^◌, cond, List, [], ◌∷◌, replicate, ◌==◌, slice_index}
 use Rattle.benchlog.specs.declared.Fault.TheVariants.{NoSuchKind}
-use Rattle.benchlog.specs.declared.Log.{Log}
-use Rattle.benchlog.specs.declared.Log.TheVariants.{Old, Timed}
 use Rattle.benchlog.specs.Faults.{fault_number}
 use Rattle.head.specs.declared.Head.{Head}
 use Rattle.head.specs.Heads.{head_of, refused_head}
@@ -22,7 +20,7 @@ limits260 = any ∷ 65535 ∷ 65535 ∷ 3 ∷ replicate 17 any
 abbrev pub limits560 : List ℕ
 limits560 = any ∷ 255 ∷ replicate 16 any
 
--- "830 geo capacity c0 .. c31", and 831: `geo` "any number", `capacity` "0 to 40,000"
+-- "830 geo capacity c0 .. c31": `geo` "any number", `capacity` "0 to 40,000"
 abbrev pub limits830 : List ℕ
 limits830 = any ∷ any ∷ 40000 ∷ replicate 32 any
 
@@ -31,7 +29,7 @@ abbrev pub head_named : ℕ → List ℕ → Head
 head_named name log =
     cond (name == 260) (head_of log limits260)
     (cond (name == 560) (head_of log limits560)
-    (cond (name == 830 || name == 831) (head_of log limits830)
+    (cond (name == 830) (head_of log limits830)
     (refused_head (fault_number NoSuchKind))))
 
 -- the head of an input: "each as soon as its number is read", so the first one before all
@@ -40,10 +38,6 @@ head_in log =
     let name : Head = head_of log (any ∷ []) in
     cond (name.answer == 0) (head_named (slice_index name.values 0) log) name
 
--- the module that a head names; another than these is refused before
+-- the module that a head names; another than these three is refused before
 abbrev pub which_of : ℕ → Which
 which_of name = cond (name == 260) V260 (cond (name == 560) V560 V830)
-
--- the log behind a head: 831 is "the same with a timed log"
-abbrev pub log_of : ℕ → Log
-log_of name = cond (name == 831) Timed Old

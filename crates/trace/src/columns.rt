@@ -83,7 +83,7 @@ pub(crate) fn numbers_560(entry: u64, t: Held) -> [u64; 43]
 }
 
 // The columns of a V830 before the counts, after the entry's number.
-fn first_words_830(answer: Answer, v: V830) -> [u32; 11]
+fn first_words_830(answer: Answer, v: V830) -> [u32; 10]
     ensures { result ≡ first_of830 answer v }
 {
     let reply = bus::numbered(answer);
@@ -91,7 +91,6 @@ fn first_words_830(answer: Answer, v: V830) -> [u32; 11]
     let store = v.store;
     let capacity = store.capacity;
     let stored = store.stored;
-    let clock = v.clock;
     [
         reply.number,
         reply.value,
@@ -103,21 +102,20 @@ fn first_words_830(answer: Answer, v: V830) -> [u32; 11]
         capacity.0,
         store.first,
         stored.0,
-        clock.steps,
     ]
 }
 
 // The numbers of a V830's line.
-pub(crate) fn numbers_830(entry: u64, t: Held) -> [u64; 44]
+pub(crate) fn numbers_830(entry: u64, t: Held) -> [u64; 43]
     ensures { result ≡ numbers830 entry t }
 {
     let answer = t.answer;
     let v = t.v830;
     let words = first_words_830(answer, v);
     let counts = v.counts;
-    let mut numbers = [0u64; 44];
+    let mut numbers = [0u64; 43];
     numbers[0] = entry;
     text::put_words(&mut numbers, 1, &words);
-    text::put_words(&mut numbers, 12, &counts);
+    text::put_words(&mut numbers, 11, &counts);
     numbers
 }

@@ -1,11 +1,9 @@
 // Shows everything that a V260, a V560 or a V830 holds, after each entry of a log.
 ghost use Rattle.std.specs.Prelude.{◌≡◌, ◌≤◌, length};
 ghost use Rattle.head.specs.Heads.{up_from};
-ghost use Rattle.meb.specs.Ring.{lent};
-ghost use Rattle.modules.specs.Entries.{acted};
-ghost use Rattle.trace.specs.Start.{limits260, limits560, limits830, head_in, which_of, log_of};
+ghost use Rattle.trace.specs.Start.{limits260, limits560, limits830, head_in, which_of};
 
-use benchlog::{Entry, Fault, Log, TimedReading};
+use benchlog::{Entry, Fault, Reading};
 use columns::{numbers_260, numbers_560, numbers_830};
 use head::Head;
 use modules::{Held, Which};
@@ -16,11 +14,10 @@ mod columns;
 // No limit, for the number that names the module.
 const ANY: [u32; 1] = [4294967295];
 
-// A listing under way: where it stands, which log it is of, the module, and how many entries it has shown.
+// A listing under way: where it stands, the module, and how many entries it has shown.
 #[derive(Drop)]
 struct Course {
     listing: Listing,
-    log: Log,
     traced: Held,
     entries: u64,
 }
@@ -70,7 +67,7 @@ fn head_in(input: &[u8]) -> Head
         let limits = limits_560();
         return head::read_head(input, &limits);
     }
-    if name.values[0] == 830 || name.values[0] == 831 {
+    if name.values[0] == 830 {
         let limits = limits_830();
         return head::read_head(input, &limits);
     }
@@ -97,7 +94,7 @@ fn put_names(out: &mut [u8], which: Which) -> usize {
         Which::V830 => text::put_text(
             out,
             0,
-            b"entry answer value geo control enable triggers veto capacity first stored steps c0 c1 c2 c3 c4 c5 c6 c7 c8 c9 c10 c11 c12 c13 c14 c15 c16 c17 c18 c19 c20 c21 c22 c23 c24 c25 c26 c27 c28 c29 c30 c31\n",
+            b"entry answer value geo control enable triggers veto capacity first stored c0 c1 c2 c3 c4 c5 c6 c7 c8 c9 c10 c11 c12 c13 c14 c15 c16 c17 c18 c19 c20 c21 c22 c23 c24 c25 c26 c27 c28 c29 c30 c31\n",
         ),
     }
 }
@@ -169,26 +166,17 @@ fn is_cut(l: Listing) -> bool {
 }
 
 // Gives the module an entry, shows what it holds then, and goes on behind it.
-fn shown(
-    out: &mut [u8],
-    memory: &mut [u32],
-    course: Course,
-    time: u32,
-    entry: Entry,
-    next: usize,
-) -> Course
-    ensures { (result.listing.have ≤ course.listing.have) × (result.traced ≡ acted course.traced (lent memory.old) time entry) }
+fn shown(out: &mut [u8], memory: &mut [u32], course: Course, entry: Entry, next: usize) -> Course
+    ensures { result.listing.have ≤ course.listing.have }
 {
     let mut l = course.listing;
     let before = course.traced;
-    let traced = modules::act(before, memory, time, entry);
+    let traced = modules::act(before, memory, entry);
     let entries = std::num::wrapping_add_u64(course.entries, 1);
     l.at = put_held(out, l.at, entries, traced);
     l.used = next;
-    let log = course.log;
     Course {
         listing: l,
-        log,
         traced,
         entries,
     }
@@ -196,13 +184,11 @@ fn shown(
 
 // The listing, gone on to another place.
 fn moved(course: Course, listing: Listing) -> Course
-    ensures { result ≡ record { listing = listing; log = course.log; traced = course.traced; entries = course.entries } }
+    ensures { result ≡ record { listing = listing; traced = course.traced; entries = course.entries } }
 {
-    let log = course.log;
     let traced = course.traced;
     Course {
         listing,
-        log,
         traced,
         entries: course.entries,
     }
@@ -214,13 +200,12 @@ fn turn(buf: &mut [u8], out: &mut [u8], memory: &mut [u32], before: Course) -> C
     ensures { result.listing.have ≤ length buf.old }
 {
     let listing = before.listing;
-    let l = stdio::make_room(out, listing, 924);
+    let l = stdio::make_room(out, listing, 903);
     let course = moved(before, l);
     let have = l.have;
-    let log = course.log;
-    match benchlog::read_timed(log, &buf[..have], l.used) {
-        TimedReading::Entry(time, entry, next) => shown(out, memory, course, time, entry, next),
-        TimedReading::Refused(fault, _) => {
+    match benchlog::read_entry(&buf[..have], l.used) {
+        Reading::Entry(entry, next) => shown(out, memory, course, entry, next),
+        Reading::Refused(fault, _) => {
             let number = benchlog::fault_number(fault);
             if !l.ended && number == benchlog::fault_number(Fault::Ends) {
                 return moved(course, stdio::read_on(buf, stdio::flush(out, l)));
@@ -247,10 +232,8 @@ fn list_entries(
     let mut l = first;
     l.used = head.after;
     l.at = put_held(out, at, 0, traced);
-    let log = log_of(values[0]);
     let mut course = Course {
         listing: l,
-        log,
         traced,
         entries: 0,
     };
@@ -274,16 +257,6 @@ fn which_of(name: u32) -> Which
         return Which::V560;
     }
     Which::V830
-}
-
-// The log that stands behind a head.
-fn log_of(name: u32) -> Log
-    ensures { result ≡ log_of name }
-{
-    if name == 831 {
-        return Log::Timed;
-    }
-    Log::Old
 }
 
 // The listing behind its beginning; a refused head is its fault line alone.

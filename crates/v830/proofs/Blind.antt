@@ -8,8 +8,7 @@ use native.Mathlib.Omega.{arith}
 use borrow.Author.Tests.{eq-eqb, eqb-false, leb-true}
 use lib.Dec.{eqb, leb, ltb}
 use lib.ListN.{length, get_or}
-use Rattle.bus.specs.declared.Answer.{Answer}
-use Rattle.bus.specs.declared.Answer.TheVariants.{Malformed, WrongMemory, NoChannel, NoMeaning, WordsStored, NoWords, TooFewFree, Busy}
+use Rattle.bus.specs.declared.Answer.TheVariants.{Malformed, WrongMemory, NoChannel, NoMeaning, WordsStored, NoWords, TooFewFree}
 use Rattle.bus.proofs.Choices.{both_ways, both_by_test}
 use Rattle.count.specs.Counter.{iterate}
 use Rattle.layout.specs.declared.Stored.{Stored}
@@ -34,11 +33,9 @@ use Rattle.v830.specs.Counting.{pulse, restarted}
 use Rattle.v830.specs.Trigger.{event_of, counted, accepted, triggered}
 use Rattle.v830.specs.Registers.{handed_on, events_read, controlled, as_written, with_bits, without_bits}
 use Rattle.v830.specs.Deeds.{deed_of, done_by}
-use Rattle.v830.specs.Time.{waited}
 use Rattle.v830.specs.Calls.{is_lent, is_lent_right, step_of}
 use Rattle.v830.proofs.Forming.{formed_facts}
 use Rattle.v830.proofs.Live.{still_pulses}
-use Rattle.v830.proofs.Passing.{time_formed}
 
 -- the first of two lists that are the same
 first_of : {x y : ℕ} {xs ys : List ℕ} → ◌≡◌ {A = List ℕ} (x ∷ xs) (y ∷ ys) → x ≡ y
@@ -121,11 +118,9 @@ module _ (s : V830) (m n : Memory) (g : formed s ≡ true) (l : length m.words �
   trigger_alike by =
       both_ways Alike (eqb (mode s.control) 1) _ _ _ _
       (both_ways Alike (ltb 0 (event_length (settings s))) _ _ _ _
-      (both_ways Alike (leb 100 s.clock.steps) _ (kept m (refused Busy s)) _ (kept n (refused Busy s))
       (both_by_test Alike (leb (event_length (settings s)) (free s.store).0) (accepted by s m) (kept m (refused TooFewFree s)) (accepted by s n) (kept n (refused TooFewFree s))
       (λ t. accept_alike by (leb-true (event_length (settings s)) (free s.store).0 t))
       (λ t. same _ refl))
-      (same _ refl))
       (same _ refl))
       (same _ refl)
 
@@ -160,25 +155,18 @@ module _ (s : V830) (m n : Memory) (g : formed s ≡ true) (l : length m.words �
   deed_alike ReadTriggers = same _ refl
   deed_alike ReadEvents = number_alike (events_in (settings s) s.store.stored.0)
 
--- every call, so much time after the one before
-module _ (elapsed : ℕ) (s : V830) (m n : Memory) (g : formed s ≡ true) (l : length m.words ≡ s.store.capacity.0) (r : length n.words ≡ s.store.capacity.0) (e : stored_words s.store m ≡ stored_words s.store n) where
   -- both memories have their length
   both_right : (c : Call) → is_lent_right s m c ≡ is_lent_right s n c
   both_right c = ap (λ (b : Bool). not (is_lent c) || b) (eq-eqb (length m.words) s.store.capacity.0 l ∙ sym (eq-eqb (length n.words) s.store.capacity.0 r))
 
-  refuses : (why : Answer) → Alike (kept m (refused why s)) (kept n (refused why s))
-  refuses why = same s m n g l r e (refused why s) refl
-
-  alike : (c : Call) → Alike (step_of elapsed s m c) (step_of elapsed s n c)
+  alike : (c : Call) → Alike (step_of s m c) (step_of s n c)
   alike c =
-      let t : V830 = waited elapsed s in
       both_ways Alike (formed s) _ (kept m (refused Malformed s)) _ (kept n (refused Malformed s))
       (rw (both_right c)
-      (both_ways Alike (is_lent_right s n c) (done_by (deed_of c) t m) (kept m (refused WrongMemory s)) (done_by (deed_of c) t n) (kept n (refused WrongMemory s))
-      (deed_alike t m n (time_formed elapsed s g) l r e (deed_of c)) (refuses WrongMemory)))
-      (refuses Malformed)
+      (both_ways Alike (is_lent_right s n c) (done_by (deed_of c) s m) (kept m (refused WrongMemory s)) (done_by (deed_of c) s n) (kept n (refused WrongMemory s)) (deed_alike (deed_of c)) (same _ refl)))
+      (same _ refl)
 
   pub blind : (c : Call)
-      → ((step_of elapsed s m c).outcome ≡ (step_of elapsed s n c).outcome)
-      × (stored_words (step_of elapsed s m c).outcome.state.store (step_of elapsed s m c).memory ≡ stored_words (step_of elapsed s m c).outcome.state.store (step_of elapsed s n c).memory)
+      → ((step_of s m c).outcome ≡ (step_of s n c).outcome)
+      × (stored_words (step_of s m c).outcome.state.store (step_of s m c).memory ≡ stored_words (step_of s m c).outcome.state.store (step_of s n c).memory)
   blind c = let a = alike c in (a.outcome, a.words)

@@ -1,18 +1,18 @@
--- What a call does behind the gate, once time has passed, balances: what is stored, then what its trigger stores, is
--- what it hands out, then what is stored after it; what its event has of a channel and the channel's live counter are
--- what was live and what was admitted. Deed by deed. Assumes nothing.
+-- One call balances: what is stored, then what its trigger stores, is what it hands out, then what is stored after
+-- it; what its event has of a channel and the channel's live counter are what was live and what was admitted. Deed by
+-- deed, behind the gate. Assumes nothing.
 use Prim.Native.Nat.{ℕ, ◌+◌, ◌-◌, ◌%◌, ◌^◌, ◌≤◌, ◌<◌}
 use mathlib.Core.Path.{◌≡◌, refl, sym, ap, ◌∙◌}
 use mathlib.Core.Bool.{Bool, true, false, cond, not, ◌&&◌, false≢true}
 use mathlib.Core.List.{List, [], ◌++◌, append-nil}
 use native.Mathlib.Nat.{add-zero, zero-add, mod-lt}
 use native.Mathlib.Omega.{arith}
-use borrow.Author.Tests.{ltb-true, leb-true, eqb-true, eqb-false}
+use borrow.Author.Tests.{ltb-true, leb-true, eqb-true, eqb-false, not-true}
 use lib.Dec.{eqb, leb, ltb}
 use lib.ListN.{length, get_or, get_or-replicate, length-map}
 use Rattle.bus.specs.declared.Access.{Access}
 use Rattle.bus.specs.declared.Answer.{Answer}
-use Rattle.bus.specs.declared.Answer.TheVariants.{Done, Malformed, WrongMemory, NoMeaning, NoChannel, NotRandom, NoWords, TooFewFree, Busy, NothingStored, WordsStored}
+use Rattle.bus.specs.declared.Answer.TheVariants.{Done, Malformed, WrongMemory, NoMeaning, NoChannel, NotRandom, NoWords, TooFewFree, NothingStored, WordsStored}
 use Rattle.bus.specs.Answers.{is_done}
 use Rattle.bus.proofs.Choices.{either_way, by_test}
 use Rattle.count.specs.Counter.{next, iterate}
@@ -41,8 +41,8 @@ use Rattle.v830.specs.Counting.{pulse, tested}
 use Rattle.v830.specs.Trigger.{event_of, accepted, triggered}
 use Rattle.v830.specs.Registers.{handed_on, events_read, controlled, as_written, with_bits, without_bits}
 use Rattle.v830.specs.Deeds.{deed_of, done_by}
-use Rattle.v830.specs.Calls.{is_lent_right, has_length}
-use Rattle.v830.specs.Account.{Role, reads_memory, triggers_by, writes_control, clears_all, pulses_on, tests_all, no_part, role_of, role_in, handed_by, accepted_by, admitted_by, move_by, words_of, AllRead, counts_in, live, enabled, modulus, Fits, Balanced, ends_with}
+use Rattle.v830.specs.Calls.{is_lent_right, has_length, gated, step_of}
+use Rattle.v830.specs.Account.{Made, made, lending, lending_another, Role, reads_memory, triggers_by, writes_control, clears_all, pulses_on, tests_all, no_part, role_of, role_in, handed_by, accepted_by, admitted_by, move_by, move_of, words_of, AllRead, counts_in, live, enabled, modulus, Fits, Balanced, ends_with, goes_on, other, stays}
 use Rattle.v830.proofs.Forming.{formed_facts}
 use Rattle.v830.proofs.Live.{still_pulses, pulses_live, counts_of_lem}
 use Rattle.v830.proofs.Modular.{next_mod, taken_mod}
@@ -53,7 +53,7 @@ module _ (k : ℕ) (b : Step) where
   s = b.outcome.state
 
   -- a call of this role is a move that balances, if it does not end the stretch
-  abbrev pub Goes : Role → Step → Type 0
+  abbrev Goes : Role → Step → Type 0
   Goes role r = ends_with role r.outcome.answer ≡ false → Balanced k (enabled k s) b (move_by s role r.outcome.answer) r
 
   module _ (f : Fits s) (h : k < 32) where
@@ -73,10 +73,10 @@ module _ (k : ℕ) (b : Step) where
     unmoved : live k s % modulus s ≡ (live k s + 0) % modulus s
     unmoved = rw add-zero
 
-    -- a refused call, which leaves the module as it was, whichever one it found
-    pub declined_by : (t : V830) (role : Role) (why : Answer) → is_done why ≡ false → Balanced k (enabled k s) b (move_by t role why) (kept b.memory (refused why s))
+    -- a refused call
+    declined : (role : Role) (why : Answer) → is_done why ≡ false → Goes role (kept b.memory (refused why s))
     unfolding words_of counts_in AllRead
-    declined_by t role why d =
+    declined role why d e =
         let n = nothing role in
         record {
           words = rw (n.0, n.1) (append-nil (stored_words s.store b.memory));
@@ -86,7 +86,7 @@ module _ (k : ℕ) (b : Step) where
           fits = f;
         }
       where
-        nothing : (role : Role) → (accepted_by t role why ≡ []) × (handed_by role why ≡ []) × (admitted_by k t role why ≡ 0)
+        nothing : (role : Role) → (accepted_by s role why ≡ []) × (handed_by role why ≡ []) × (admitted_by k s role why ≡ 0)
         nothing reads_memory = (refl, rw d, refl)
         nothing (triggers_by source) = (rw d, refl, refl)
         nothing writes_control = (refl, refl, refl)
@@ -94,9 +94,6 @@ module _ (k : ℕ) (b : Step) where
         nothing (pulses_on channel n) = (refl, refl, rw d)
         nothing tests_all = (refl, refl, rw d)
         nothing no_part = (refl, refl, refl)
-
-    declined : (role : Role) (why : Answer) → is_done why ≡ false → Goes role (kept b.memory (refused why s))
-    declined role why d e = declined_by s role why d
 
     -- a memory read
     read_fair : formed s ≡ true → (c : Bool) → eqb s.store.stored.0 0 ≡ c
@@ -149,11 +146,9 @@ module _ (k : ℕ) (b : Step) where
         let P : Step → Type 0 = Goes (triggers_by by) in
         either_way P (eqb (mode s.control) 1) _ _
         (by_test P (ltb 0 (event_length (settings s))) _ _
-        (λ z. either_way P (leb 100 s.clock.steps) _ _
-        (by_test P (leb (event_length (settings s)) (free s.store).0) _ _
+        (λ z. by_test P (leb (event_length (settings s)) (free s.store).0) _ _
         (λ t. accepts by g (ltb-true 0 (event_length (settings s)) z) l (leb-true (event_length (settings s)) (free s.store).0 t))
         (λ t. declined (triggers_by by) TooFewFree refl))
-        (declined (triggers_by by) Busy refl))
         (λ z. declined (triggers_by by) NoWords refl))
         (declined (triggers_by by) NotRandom refl)
 
@@ -220,23 +215,43 @@ module _ (k : ℕ) (b : Step) where
     deed_fair g l ReadTriggers = looks (Done _)
     deed_fair g l ReadEvents = number_fair (events_in (settings s) s.store.stored.0)
 
-    -- a call that is lent the module's memory, behind the gate
-    pub lent_fair : (c : Call) → formed s ≡ true → is_lent_right s b.memory c ≡ true → Goes (role_in c) (done_by (deed_of c) s b.memory)
-    lent_fair (call.Pulses x n) g l = pulses_fair x n
-    lent_fair (call.VetoLine on) g l = veto_fair on
-    lent_fair call.Test g l = test_fair
-    lent_fair call.ClearLine g l = ends_fair clears_all 0 _ refl
-    lent_fair call.TriggerLine g l = deed_fair g (eqb-true _ _ l) (Trigger Line)
-    lent_fair (call.Access a) g l = deed_fair g (eqb-true _ _ l) (deed_of (call.Access a))
-    lent_fair call.ManClr g l = looks NoMeaning
+    -- behind the gate: 12 and 10 come first
+    gate_fair : (P : Step → Type 0) (right : Bool) (lend : Memory) (after : Step) → P (kept lend (refused Malformed s)) → P (kept lend (refused WrongMemory s))
+        → (formed s ≡ true → right ≡ true → P after) → P (gated right s lend after)
+    gate_fair P right lend after p q then =
+        by_test P (formed s) _ (kept lend (refused Malformed s))
+        (λ g. by_test P right after (kept lend (refused WrongMemory s)) (λ l. then g l) (λ l. q))
+        (λ g. p)
 
-    -- and one that is lent another memory: only what does not look at it comes so far
-    pub another_fair : (lend : Memory) (c : Call) → has_length s lend ≡ false → is_lent_right s lend c ≡ true
-        → Goes (role_in c) (record { outcome = (done_by (deed_of c) s lend).outcome; memory = b.memory })
-    another_fair lend (call.Pulses x n) d l = pulses_fair x n
-    another_fair lend (call.VetoLine on) d l = veto_fair on
-    another_fair lend call.Test d l = test_fair
-    another_fair lend call.ClearLine d l = ends_fair clears_all 0 _ refl
-    another_fair lend call.TriggerLine d l = absurd (false≢true (sym d ∙ l))
-    another_fair lend (call.Access a) d l = absurd (false≢true (sym d ∙ l))
-    another_fair lend call.ManClr d l = looks NoMeaning
+    -- a call that is lent the module's memory
+    call_fair : (c : Call) → Goes (role_in c) (step_of s b.memory c)
+    call_fair c = gate_fair (Goes (role_in c)) (is_lent_right s b.memory c) b.memory _ (declined (role_in c) Malformed refl) (declined (role_in c) WrongMemory refl) (λ g l. go c g l)
+      where
+        go : (c : Call) → formed s ≡ true → is_lent_right s b.memory c ≡ true → Goes (role_in c) (done_by (deed_of c) s b.memory)
+        go (call.Pulses x n) g l = pulses_fair x n
+        go (call.VetoLine on) g l = veto_fair on
+        go call.Test g l = test_fair
+        go call.ClearLine g l = ends_fair clears_all 0 _ refl
+        go call.TriggerLine g l = deed_fair g (eqb-true _ _ l) (Trigger Line)
+        go (call.Access a) g l = deed_fair g (eqb-true _ _ l) (deed_of (call.Access a))
+        go call.ManClr g l = looks NoMeaning
+
+    -- and one that is lent another memory: where it looks at it, 12 or 10 comes first
+    another_fair : (lend : Memory) (c : Call) → has_length s lend ≡ false → Goes (role_in c) (record { outcome = (step_of s lend c).outcome; memory = b.memory })
+    another_fair lend c d =
+        gate_fair (λ r. Goes (role_in c) (record { outcome = r.outcome; memory = b.memory })) (is_lent_right s lend c) lend _
+        (declined (role_in c) Malformed refl) (declined (role_in c) WrongMemory refl) (λ g l. go c l)
+      where
+        go : (c : Call) → is_lent_right s lend c ≡ true → Goes (role_in c) (record { outcome = (done_by (deed_of c) s lend).outcome; memory = b.memory })
+        go (call.Pulses x n) l = pulses_fair x n
+        go (call.VetoLine on) l = veto_fair on
+        go call.Test l = test_fair
+        go call.ClearLine l = ends_fair clears_all 0 _ refl
+        go call.TriggerLine l = absurd (false≢true (sym d ∙ l))
+        go (call.Access a) l = absurd (false≢true (sym d ∙ l))
+        go call.ManClr l = looks NoMeaning
+
+-- a call is a move that balances, whatever the memory that it is lent
+pub made_balances : (k : ℕ) (b : Step) (m : Made) → Fits b.outcome.state → k < 32 → goes_on b m ≡ true → other b m ≡ true → Balanced k (stays k b m) b (move_of b m) (made b m)
+made_balances k b (lending c) f h g o = call_fair k b f h c (not-true _ g)
+made_balances k b (lending_another lend c) f h g o = another_fair k b f h lend c (not-true _ o) (not-true _ g)

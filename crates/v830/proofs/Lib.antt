@@ -5,14 +5,11 @@ pub mod Narrow
 pub mod Modular
 pub mod Live
 pub mod ReadsBack
-pub mod Passing
 pub mod Staying
 pub mod Numbering
 pub mod Roles
 pub mod Fairness
 pub mod Moves
-pub mod Balancing
-pub mod Recent
 pub mod AccountBalances
 pub mod Reckoned
 pub mod Blind

@@ -1,5 +1,6 @@
--- Two moves one after the other are a move, and it balances if both do. Assumes nothing.
-use Prim.Native.Nat.{ℕ, ◌+◌}
+-- Two moves one after the other are a move, and it balances if both do; so the account of a list of calls, their
+-- moves one after the other, balances. Assumes nothing.
+use Prim.Native.Nat.{ℕ, ◌+◌, ◌<◌}
 use mathlib.Core.Path.{◌≡◌, refl, sym, ◌∙◌}
 use mathlib.Core.Bool.{Bool, true, ◌&&◌}
 use mathlib.Core.List.{List, [], ◌∷◌, ◌++◌, append_assoc, append-nil}
@@ -8,7 +9,8 @@ use Rattle.bus.proofs.Places.{left_of, right_of}
 use Rattle.layout.specs.Layout.{event_words}
 use Rattle.v830.specs.declared.V830.{V830}
 use Rattle.v830.specs.Outcomes.{Step}
-use Rattle.v830.specs.Account.{Block, Move, no_move, and_then, stored_in, words_of, AllRead, counts_in, live, modulus, Fits, Balanced}
+use Rattle.v830.specs.Account.{Made, made, Block, Move, no_move, and_then, account_of, stored_in, words_of, AllRead, counts_in, live, modulus, Fits, Balanced, goes_on, other, stays, each}
+use Rattle.v830.proofs.Fairness.{made_balances}
 use Rattle.v830.proofs.Modular.{glue_mod}
 
 -- the words and the counts of two lists of events
@@ -32,7 +34,7 @@ glue : (q e es o q' h l : List ℕ) → q ++ e ≡ o ++ q' → q' ++ es ≡ h ++
 glue q e es o q' h l d r = cc (append_assoc q e es, append_assoc o q' es, append_assoc o h l)
 
 module _ (k : ℕ) where
-  -- no move balances where nothing changes that it looks at
+  -- no move balances where nothing changes
   pub balances_none : (b : Step) → Fits b.outcome.state → Balanced k true b no_move b
   unfolding words_of counts_in AllRead
   balances_none b f = record { words = append-nil (stored_in b); counts = λ on reset. rw (zero-add, add-zero); read = tt; control = refl; fits = f }
@@ -53,3 +55,12 @@ module _ (k : ℕ) where
         control = q.control ∙ p.control;
         fits = q.fits;
       }
+
+  -- the account of a list of calls balances
+  pub account_balances : (ms : List Made) (b : Step) → k < 32 → Fits b.outcome.state → each goes_on ms b ≡ true → each other ms b ≡ true
+      → Balanced k (each (stays k) ms b) b (account_of ms b).move (account_of ms b).last
+  unfolding account_of each
+  account_balances [] b h f g o = balances_none b f
+  account_balances (m ∷ ms) b h f g o =
+      let y = made_balances k b m f h (left_of (goes_on b m) _ g) (left_of (other b m) _ o) in
+      balances_then y (account_balances ms (made b m) h y.fits (right_of (goes_on b m) _ g) (right_of (other b m) _ o))

@@ -1,6 +1,6 @@
--- T1, demand 1, for the V830: a call that is refused leaves what the passing of time leaves, or, for 12 and 10, what
--- went in, with the value 0; and each number is given exactly when its line of document 01 holds and no earlier one
--- does (specs/Numbers.antt). Deed by deed. Assumes nothing.
+-- T1, demand 1, for the V830: a call that is refused leaves the module and every lent word as they were, with the
+-- value 0; and each number is given exactly when its line of document 01 holds and no earlier one does
+-- (specs/Numbers.antt). Deed by deed. Assumes nothing.
 use Prim.Native.Nat.{ℕ, ◌<◌}
 use mathlib.Core.Path.{◌≡◌, refl, sym}
 use mathlib.Core.Bool.{Bool, true, false, cond, ◌&&◌, ◌||◌, not, false≢true}
@@ -11,10 +11,10 @@ use lib.Dec.{eqb, leb, ltb}
 use lib.ListN.{length, get_or}
 use Rattle.bus.specs.declared.Access.{Access}
 use Rattle.bus.specs.declared.Answer.{Answer}
-use Rattle.bus.specs.declared.Answer.TheVariants.{NoMeaning, NoChannel, Malformed, WrongMemory, NotRandom, NoWords, TooFewFree, Busy, NothingStored, WordsStored}
+use Rattle.bus.specs.declared.Answer.TheVariants.{NoMeaning, NoChannel, Malformed, WrongMemory, NotRandom, NoWords, TooFewFree, NothingStored, WordsStored}
 use Rattle.bus.specs.Answers.{number_of, value_of, is_done}
 use Rattle.bus.specs.Table.{by_table}
-use Rattle.bus.proofs.Choices.{either_way, both_ways}
+use Rattle.bus.proofs.Choices.{both_ways, both_by_test}
 use Rattle.bus.proofs.Numbers.{refusal_value, each_number}
 use Rattle.layout.specs.declared.Stored.TheVariants as stored
 use Rattle.layout.specs.Length.{events, event_length, rounded_up}
@@ -30,26 +30,20 @@ use Rattle.v830.specs.declared.deeds.Source.TheVariants.{Line, Register}
 use Rattle.v830.specs.declared.Outcome.{Outcome}
 use Rattle.v830.specs.declared.V830.{V830}
 use Rattle.v830.specs.State.{mode, settings, formed, power_on, storing}
-use Rattle.v830.specs.Outcomes.{Step, Board, kept, refused, done, unless_lent, started}
+use Rattle.v830.specs.Outcomes.{Step, kept, refused, done, started}
 use Rattle.v830.specs.Trigger.{accepted, triggered}
 use Rattle.v830.specs.Counting.{restarted}
 use Rattle.v830.specs.Registers.{registers, handed_on, controlled, as_written, with_bits, without_bits, events_read}
 use Rattle.v830.specs.Deeds.{deed_at, deed_of, done_by}
-use Rattle.v830.specs.Time.{waited, passed}
-use Rattle.v830.specs.Calls.{is_lent_right, passes, step_of}
+use Rattle.v830.specs.Calls.{is_lent_right, step_of}
 use Rattle.v830.specs.Account.{Made, made, lending, lending_another, account_of}
-use Rattle.v830.specs.Numbers.{left_by, Same, unless_number, trigger_number, control_number, deed_number, call_number, number_for, start_number}
-use Rattle.v830.proofs.Forming.{formed_parts}
-use Rattle.v830.proofs.Passing.{time_formed}
-
--- a call's number, and that where it refuses it leaves this
-abbrev AnsweredBy : Board → ℕ → Step → Type 0
-AnsweredBy b n r = (number_of r.outcome.answer ≡ n) × Same b r
+use Rattle.v830.specs.Numbers.{Same, trigger_number, control_number, deed_number, call_number, number_for, start_number}
+use Rattle.v830.proofs.Staying.{formed_parts}
 
 module _ (s : V830) (memory : Memory) where
-  -- a deed that, where it refuses, changes nothing
+  -- a call's number, and that where it refuses it changes nothing
   abbrev Answered : ℕ → Step → Type 0
-  Answered n r = AnsweredBy (record { state = s; memory = memory }) n r
+  Answered n r = (number_of r.outcome.answer ≡ n) × Same s memory r
 
   declines : (why : Answer) → Answered (number_of why) (kept memory (refused why s))
   declines why = (refl, λ e. (refl, refl, refusal_value why e))
@@ -65,11 +59,9 @@ module _ (s : V830) (memory : Memory) where
   trigger_answered by =
       both_ways Answered (eqb (mode s.control) 1) _ _ _ _
       (both_ways Answered (ltb 0 (event_length (settings s))) _ _ _ _
-      (both_ways Answered (leb 100 s.clock.steps) _ _ _ _
       (both_ways Answered (leb (event_length (settings s)) (free s.store).0) 0 9 (accepted by s memory) (kept memory (refused TooFewFree s))
       (does 0 (accepted by s memory).outcome.state (accepted by s memory).memory)
       (declines TooFewFree))
-      (declines Busy))
       (declines NoWords))
       (declines NotRandom)
 
@@ -147,32 +139,19 @@ module _ (s : V830) (memory : Memory) where
   call_answered g (call.Access a) = access_answered g a
   call_answered g call.ManClr = declines NoMeaning
 
--- what a refused call leaves has every lent word as it was
-pub left_words : (elapsed : ℕ) (s : V830) (memory : Memory) (c : Call) → (left_by elapsed s memory c).memory ≡ memory
-left_words elapsed s memory c = either_way (λ (b : Board). b.memory ≡ memory) (passes s memory c) (passed elapsed s memory) (record { state = s; memory = memory }) refl refl
+  -- 12 comes first, then 10 of a call that is lent the memory
+  answered : (c : Call) → Answered (number_for s memory c) (step_of s memory c)
+  answered c =
+      both_by_test Answered (formed s) _ 12 _ (kept memory (refused Malformed s))
+      (λ g. both_ways Answered (is_lent_right s memory c) (call_number s c) 10 (done_by (deed_of c) s memory) (kept memory (refused WrongMemory s)) (call_answered g c) (declines WrongMemory))
+      (λ g. declines Malformed)
 
--- every call, so much time after the one before
-module _ (elapsed : ℕ) (s : V830) (memory : Memory) where
-  -- 12 comes first, then 10 of a call that is lent the memory; then time passes
-  answered : (c : Call) → AnsweredBy (left_by elapsed s memory c) (number_for elapsed s memory c) (step_of elapsed s memory c)
-  answered c = go (formed s) (is_lent_right s memory c) refl
-    where
-      t : V830
-      t = waited elapsed s
-
-      go : (f l : Bool) → formed s ≡ f
-          → AnsweredBy (cond (f && l) (passed elapsed s memory) (record { state = s; memory = memory })) (unless_number f 12 (unless_number l 10 (call_number t c)))
-          (unless_lent f Malformed s memory (unless_lent l WrongMemory s memory (done_by (deed_of c) t memory)))
-      go true true g = call_answered t memory (time_formed elapsed s g) c
-      go true false g = declines s memory WrongMemory
-      go false l g = declines s memory Malformed
-
-  -- T1: a refused call leaves what the passing of time leaves, or, for 12 and 10, what went in, and has the value 0
-  pub v830_refused_same : (c : Call) → Same (left_by elapsed s memory c) (step_of elapsed s memory c)
+  -- T1: a refused call changes neither the module nor a lent word, and has the value 0
+  pub v830_refused_same : (c : Call) → Same s memory (step_of s memory c)
   v830_refused_same c = (answered c).1
 
   -- T1: each number exactly when its line holds and no earlier one does
-  pub v830_number_is : (c : Call) → number_of (step_of elapsed s memory c).outcome.answer ≡ number_for elapsed s memory c
+  pub v830_number_is : (c : Call) → number_of (step_of s memory c).outcome.answer ≡ number_for s memory c
   v830_number_is c = (answered c).0
 
 -- the start by its two tests
@@ -192,10 +171,9 @@ module _ (geo : ℕ) (memory : Memory) where
   v830_start_number = (start_answered geo (length memory.words) (leb geo 31) (leb 1 (length memory.words) && leb (length memory.words) 32768)).0
 
 -- ".. which gets 12 from then on": every call of it is refused with 12 and leaves it as it is
-refused_stays : (elapsed : ℕ) (memory : Memory) (c : Call)
-    → (number_of (step_of elapsed (power_on 0 0 0) memory c).outcome.answer ≡ 12) × ((step_of elapsed (power_on 0 0 0) memory c).outcome.state ≡ power_on 0 0 0)
+refused_stays : (memory : Memory) (c : Call) → (number_of (step_of (power_on 0 0 0) memory c).outcome.answer ≡ 12) × ((step_of (power_on 0 0 0) memory c).outcome.state ≡ power_on 0 0 0)
 unfolding formed
-refused_stays elapsed memory c = (refl, refl)
+refused_stays memory c = (refl, refl)
 
 -- over every list of calls after a refused start, whatever the memories that they are lent: the next one gets 12 too
 pub v830_refused_start : (geo : ℕ) (first : Memory) (calls : List Made) (next : Made) → is_done (started geo first).answer ≡ false
@@ -205,8 +183,8 @@ unfolding account_of
 v830_refused_start geo first calls next d = go calls (kept first (started geo first)) (v830_start_refused geo first d).0
   where
     one : (b : Step) (m : Made) → b.outcome.state ≡ power_on 0 0 0 → (number_of (made b m).outcome.answer ≡ 12) × ((made b m).outcome.state ≡ power_on 0 0 0)
-    one b (lending elapsed c) e = rw e (refused_stays elapsed b.memory c)
-    one b (lending_another elapsed lend c) e = rw e (refused_stays elapsed lend c)
+    one b (lending c) e = rw e (refused_stays b.memory c)
+    one b (lending_another lend c) e = rw e (refused_stays lend c)
 
     go : (ms : List Made) (b : Step) → b.outcome.state ≡ power_on 0 0 0
         → (number_of (made (account_of ms b).last next).outcome.answer ≡ 12) × ((account_of ms b).last.outcome.state ≡ power_on 0 0 0)

@@ -22,7 +22,6 @@ use Rattle.v830.specs.Counting.{restarted}
 use Rattle.v830.specs.Trigger.{triggered}
 use Rattle.v830.specs.Registers.{controlled, as_written, with_bits, without_bits}
 use Rattle.v830.specs.Deeds.{deed_of, done_by}
-use Rattle.v830.specs.Time.{waited}
 use Rattle.v830.specs.Calls.{is_lent_right, has_length, gated, step_of}
 use Rattle.v830.specs.Account.{Role, reads_memory, triggers_by, writes_control, clears_all, pulses_on, tests_all, no_part, role_of, role_in}
 
@@ -36,7 +35,7 @@ is_write (pulses_on k n) = false
 is_write tests_all = false
 is_write no_part = false
 
-abbrev pub is_trigger : Role → Bool
+abbrev is_trigger : Role → Bool
 is_trigger reads_memory = false
 is_trigger (triggers_by by) = true
 is_trigger writes_control = false
@@ -46,7 +45,7 @@ is_trigger tests_all = false
 is_trigger no_part = false
 
 -- who triggers, by the role; of another role it is not asked
-abbrev pub triggerer : Role → Source
+abbrev triggerer : Role → Source
 triggerer reads_memory = Line
 triggerer (triggers_by by) = by
 triggerer writes_control = Line
@@ -55,32 +54,21 @@ triggerer (pulses_on k n) = Line
 triggerer tests_all = Line
 triggerer no_part = Line
 
--- a role that is a trigger names who triggers
-pub triggers_by_lem : (role : Role) → is_trigger role ≡ true → role ≡ triggers_by (triggerer role)
-triggers_by_lem reads_memory w = absurd (false≢true w)
-triggers_by_lem (triggers_by by) w = refl
-triggers_by_lem writes_control w = absurd (false≢true w)
-triggers_by_lem clears_all w = absurd (false≢true w)
-triggers_by_lem (pulses_on k n) w = absurd (false≢true w)
-triggers_by_lem tests_all w = absurd (false≢true w)
-triggers_by_lem no_part w = absurd (false≢true w)
-
 -- what a write of Control leaves that is done
 pub record Restarted (s t : V830) : Type 0 where
   pub counts : t.counts ≡ zeros
   pub enable : t.enable ≡ s.enable
   pub stored : t.store.stored.0 ≡ 0
-  pub steps : t.clock.steps ≡ 100
-
--- a call that is done has passed the gate
-pub done_formed : (elapsed : ℕ) (s : V830) (memory : Memory) (c : Call) → is_done (step_of elapsed s memory c).outcome.answer ≡ true → formed s ≡ true
-done_formed elapsed s memory c d = go (formed s) refl
-  where
-    go : (b : Bool) → formed s ≡ b → formed s ≡ true
-    go true e = e
-    go false e = absurd (false≢true (rw e at d))
 
 module _ (s : V830) (memory : Memory) where
+  -- a call that is done has passed the gate
+  pub done_formed : (c : Call) → is_done (step_of s memory c).outcome.answer ≡ true → formed s ≡ true
+  done_formed c d = go (formed s) refl
+    where
+      go : (b : Bool) → formed s ≡ b → formed s ≡ true
+      go true e = e
+      go false e = absurd (false≢true (rw e at d))
+
   -- a step that, if it is done, restarts the account
   abbrev Restarts : Step → Type 0
   Restarts r = is_done r.outcome.answer ≡ true → Restarted s r.outcome.state
@@ -88,7 +76,7 @@ module _ (s : V830) (memory : Memory) where
   control_restarts : (result : ℕ) → Restarts (kept memory (controlled result s))
   control_restarts result =
       by_test (λ (o : Outcome). Restarts (kept memory o)) (not (eqb (mode result) 3)) (done 0 (restarted result s)) (refused NoMeaning s)
-      (λ m e. record { counts = refl; enable = refl; stored = refl; steps = refl })
+      (λ m e. record { counts = refl; enable = refl; stored = refl })
       (λ m e. absurd (false≢true e))
 
   deed_restarts : (d : Deed) → is_write (role_of d) ≡ true → Restarts (done_by d s memory)
@@ -110,6 +98,14 @@ module _ (s : V830) (memory : Memory) where
   deed_restarts ReadTriggers w = absurd (false≢true w)
   deed_restarts ReadEvents w = absurd (false≢true w)
 
+  pub write_restarts : (c : Call) → role_in c ≡ writes_control → Restarts (step_of s memory c)
+  write_restarts c w =
+      by_test Restarts (formed s) _ (kept memory (refused Malformed s))
+      (λ g. by_test Restarts (is_lent_right s memory c) _ (kept memory (refused WrongMemory s))
+      (λ l. deed_restarts (deed_of c) (ap is_write w))
+      (λ l e. absurd (false≢true e)))
+      (λ g e. absurd (false≢true e))
+
   deed_triggers : (d : Deed) → is_trigger (role_of d) ≡ true → done_by d s memory ≡ triggered (triggerer (role_of d)) s memory
   deed_triggers (Refuse why) w = absurd (false≢true w)
   deed_triggers (Pulses k n) w = absurd (false≢true w)
@@ -130,7 +126,7 @@ module _ (s : V830) (memory : Memory) where
   deed_triggers ReadEvents w = absurd (false≢true w)
 
   -- only calls that are lent the memory trigger
-  pub trigger_lent : (c : Call) → is_trigger (role_in c) ≡ true → is_lent_right s memory c ≡ has_length s memory
+  trigger_lent : (c : Call) → is_trigger (role_in c) ≡ true → is_lent_right s memory c ≡ has_length s memory
   trigger_lent (call.Pulses k n) w = absurd (false≢true w)
   trigger_lent (call.VetoLine on) w = absurd (false≢true w)
   trigger_lent call.Test w = absurd (false≢true w)
@@ -139,24 +135,9 @@ module _ (s : V830) (memory : Memory) where
   trigger_lent (call.Access a) w = refl
   trigger_lent call.ManClr w = absurd (false≢true w)
 
--- every call, so much time after the one before
-module _ (elapsed : ℕ) (s : V830) (memory : Memory) where
-  abbrev then : V830
-  then = waited elapsed s
-
-  -- a write of Control that is done restarts the account
-  pub write_restarts : (c : Call) → role_in c ≡ writes_control → Restarts then memory (step_of elapsed s memory c)
-  write_restarts c w =
-      let R = Restarts then memory in
-      by_test R (formed s) _ (kept memory (refused Malformed s))
-      (λ g. by_test R (is_lent_right s memory c) _ (kept memory (refused WrongMemory s))
-      (λ l. deed_restarts then memory (deed_of c) (ap is_write w))
-      (λ l e. absurd (false≢true e)))
-      (λ g e. absurd (false≢true e))
-
-  -- a trigger by line or register is 12, 10, or what a trigger does to the module that the passing of time leaves
-  pub trigger_is : (c : Call) (by : Source) → role_in c ≡ triggers_by by → step_of elapsed s memory c ≡ gated (has_length s memory) s memory (triggered by then memory)
+  -- a trigger by line or register is 12, 10, or what a trigger does
+  pub trigger_is : (c : Call) (by : Source) → role_in c ≡ triggers_by by → step_of s memory c ≡ gated (has_length s memory) s memory (triggered by s memory)
   trigger_is c by e =
       let t : is_trigger (role_in c) ≡ true = ap is_trigger e in
-      let d : done_by (deed_of c) then memory ≡ triggered by then memory = deed_triggers then memory (deed_of c) t ∙ ap (λ (r : Role). triggered (triggerer r) then memory) e in
-      ap (λ (b : Bool). gated b s memory (done_by (deed_of c) then memory)) (trigger_lent s memory c t) ∙ ap (gated (has_length s memory) s memory) d
+      let d : done_by (deed_of c) s memory ≡ triggered by s memory = deed_triggers (deed_of c) t ∙ ap (λ (r : Role). triggered (triggerer r) s memory) e in
+      ap (λ (b : Bool). gated b s memory (done_by (deed_of c) s memory)) (trigger_lent c t) ∙ ap (gated (has_length s memory) s memory) d

@@ -9,8 +9,9 @@ use borrow.Author.Tests.{eqb-true, ltb-true}
 use lib.Dec.{eqb, leb, ltb}
 use lib.ListN.{length, get_or}
 use Rattle.bus.specs.declared.Answer.{Answer}
-use Rattle.bus.specs.declared.Answer.TheVariants.{NothingStored, Malformed, WrongMemory, NoMeaning, NoChannel, NotRandom, NoWords, TooFewFree, Busy, WordsStored}
+use Rattle.bus.specs.declared.Answer.TheVariants.{NothingStored, Malformed, WrongMemory, NoMeaning, NoChannel, NotRandom, NoWords, TooFewFree, WordsStored}
 use Rattle.bus.proofs.Choices.{either_way, by_test}
+use Rattle.bus.proofs.Places.{left_of, right_of}
 use Rattle.count.specs.Counter.{iterate}
 use Rattle.layout.specs.declared.Words.{Words}
 use Rattle.layout.specs.declared.Stored.{Stored}
@@ -35,11 +36,31 @@ use Rattle.v830.specs.Counting.{pulse, restarted}
 use Rattle.v830.specs.Trigger.{event_of, filled_by, accepted, triggered}
 use Rattle.v830.specs.Registers.{as_written, with_bits, without_bits, handed_on, controlled, events_read}
 use Rattle.v830.specs.Deeds.{deed_of, done_by}
-use Rattle.v830.specs.Time.{waited}
 use Rattle.v830.specs.Calls.{is_lent_right, step_of}
-use Rattle.v830.proofs.Forming.{Formed, formed_parts, parts_formed}
 use Rattle.v830.proofs.Live.{still_pulses}
-use Rattle.v830.proofs.Passing.{time_formed}
+
+-- the four tests of `formed`
+pub record Formed (s : V830) : Type 0 where
+  pub geo : leb s.geo 31 ≡ true
+  pub store : fits s.store ≡ true
+  pub words : explained s ≡ true
+  pub mode : not (eqb (mode s.control) 3) ≡ true
+
+pub formed_parts : (s : V830) → formed s ≡ true → Formed s
+unfolding formed
+formed_parts s e =
+    let three = left_of (leb s.geo 31 && fits s.store && explained s) _ e in
+    let two = left_of (leb s.geo 31 && fits s.store) _ three in
+    record {
+      geo = left_of (leb s.geo 31) _ two;
+      store = right_of (leb s.geo 31) _ two;
+      words = right_of (leb s.geo 31 && fits s.store) _ three;
+      mode = right_of (leb s.geo 31 && fits s.store && explained s) _ e;
+    }
+
+pub parts_formed : (s : V830) → Formed s → formed s ≡ true
+unfolding formed
+parts_formed s f = rw (f.geo, f.store, f.words, f.mode)
 
 module _ (s : V830) (memory : Memory) (h : formed s ≡ true) where
   f : Formed s
@@ -51,14 +72,14 @@ module _ (s : V830) (memory : Memory) (h : formed s ≡ true) where
 
   -- CLEAR: another store, emptied or as it was
   clear_formed : (b : Bool) → formed (storing (cond b (emptied s.store) s.store) s) ≡ true
-  clear_formed true = parts_formed _ (record { geo = f.geo; store = emptied_fits s.store f.store; words = refl; mode = f.mode; steps = f.steps })
-  clear_formed false = parts_formed _ (record { geo = f.geo; store = f.store; words = f.words; mode = f.mode; steps = f.steps })
+  clear_formed true = parts_formed _ (record { geo = f.geo; store = emptied_fits s.store f.store; words = refl; mode = f.mode })
+  clear_formed false = parts_formed _ (record { geo = f.geo; store = f.store; words = f.words; mode = f.mode })
 
   -- a write of Control
   control_formed : (result : ℕ) → Well (controlled result s)
   control_formed result =
       by_test Well (not (eqb (mode result) 3)) (done 0 (restarted result s)) (refused NoMeaning s)
-      (λ m. parts_formed _ (record { geo = f.geo; store = emptied_fits s.store f.store; words = refl; mode = m; steps = refl }))
+      (λ m. parts_formed _ (record { geo = f.geo; store = emptied_fits s.store f.store; words = refl; mode = m }))
       (λ m. h)
 
   -- words that are stored are those of events
@@ -74,7 +95,7 @@ module _ (s : V830) (memory : Memory) (h : formed s ≡ true) where
   read_formed true e word = h
   read_formed false e word =
       parts_formed _
-      (record { geo = f.geo; store = shorter_fits s.store f.store; words = or_right_true (eqb (s.store.stored.0 - 1) 0) _ (some_words e); mode = f.mode; steps = f.steps })
+      (record { geo = f.geo; store = shorter_fits s.store f.store; words = or_right_true (eqb (s.store.stored.0 - 1) 0) _ (some_words e); mode = f.mode })
 
   -- an accepted trigger: its event has words
   accept_formed : (by : Source) → ltb 0 (event_length (settings s)) ≡ true → Well (accepted by s memory).outcome
@@ -85,7 +106,6 @@ module _ (s : V830) (memory : Memory) (h : formed s ≡ true) where
         store = put_fits s.store memory (event_words (settings s) (event_of by s)) f.store;
         words = or_right_true (eqb (filled_by by s memory).store.stored.0 0) _ (some (event_length (settings s)) w);
         mode = f.mode;
-        steps = refl;
       })
     where
       some : (n : ℕ) → ltb 0 n ≡ true → not (eqb n 0) ≡ true
@@ -100,9 +120,7 @@ module _ (s : V830) (memory : Memory) (h : formed s ≡ true) where
       let P : Step → Type 0 = λ r. Well r.outcome in
       either_way P (eqb (mode s.control) 1) _ (kept memory (refused NotRandom s))
       (by_test P (ltb 0 (event_length (settings s))) _ (kept memory (refused NoWords s))
-      (λ w. either_way P (leb 100 s.clock.steps) _ (kept memory (refused Busy s))
-      (either_way P (leb (event_length (settings s)) (free s.store).0) (accepted by s memory) (kept memory (refused TooFewFree s)) (accept_formed by w) h)
-      h)
+      (λ w. either_way P (leb (event_length (settings s)) (free s.store).0) (accepted by s memory) (kept memory (refused TooFewFree s)) (accept_formed by w) h)
       (λ w. h))
       h
 
@@ -112,12 +130,12 @@ module _ (s : V830) (memory : Memory) (h : formed s ≡ true) where
 
   pulses_formed : (k n : ℕ) → formed (iterate n (pulse k) s) ≡ true
   unfolding formed
-  pulses_formed k n = let t = still_pulses n k s in rw (t.geo, t.store, t.clock, t.control, t.enable) h
+  pulses_formed k n = let t = still_pulses n k s in rw (t.geo, t.store, t.control, t.enable) h
 
   reset_formed : Well (done_by Reset s memory).outcome
   reset_formed =
       let m = store_facts s.store f.store in
-      parts_formed _ (record { geo = f.geo; store = empty_fits s.store.capacity.0 m.0 m.1; words = refl; mode = refl; steps = refl })
+      parts_formed _ (record { geo = f.geo; store = empty_fits s.store.capacity.0 m.0 m.1; words = refl; mode = refl })
 
   -- deed by deed
   pub deed_formed : (d : Deed) → Well (done_by d s memory).outcome
@@ -133,7 +151,7 @@ module _ (s : V830) (memory : Memory) (h : formed s ≡ true) where
   deed_formed ReadEnable = h
   deed_formed (WriteEnable word) =
       by_test Well (eqb s.store.stored.0 0) (done 0 (enabling (word % 2 ^ 32) s)) (refused WordsStored s)
-      (λ e. parts_formed (enabling (word % 2 ^ 32) s) (record { geo = f.geo; store = f.store; words = rw e; mode = f.mode; steps = f.steps }))
+      (λ e. parts_formed (enabling (word % 2 ^ 32) s) (record { geo = f.geo; store = f.store; words = rw e; mode = f.mode }))
       (λ e. h)
   deed_formed ReadControl = h
   deed_formed (WriteControl word) = control_formed (as_written word)
@@ -143,13 +161,12 @@ module _ (s : V830) (memory : Memory) (h : formed s ≡ true) where
   deed_formed ReadTriggers = h
   deed_formed ReadEvents = number_formed (events_in (settings s) s.store.stored.0)
 
--- T9: "a record that is not malformed stays so", for every call and every time
-pub formed_stays : (elapsed : ℕ) (s : V830) (memory : Memory) (c : Call) → formed s ≡ true → formed (step_of elapsed s memory c).outcome.state ≡ true
-formed_stays elapsed s memory c h =
+-- T9: "a record that is not malformed stays so", for every call
+pub formed_stays : (s : V830) (memory : Memory) (c : Call) → formed s ≡ true → formed (step_of s memory c).outcome.state ≡ true
+formed_stays s memory c h =
     let P : Step → Type 0 = λ r. formed r.outcome.state ≡ true in
-    let t : V830 = waited elapsed s in
     either_way P (formed s) _ (kept memory (refused Malformed s))
-    (either_way P (is_lent_right s memory c) (done_by (deed_of c) t memory) (kept memory (refused WrongMemory s)) (deed_formed t memory (time_formed elapsed s h) (deed_of c)) h)
+    (either_way P (is_lent_right s memory c) (done_by (deed_of c) s memory) (kept memory (refused WrongMemory s)) (deed_formed s memory h (deed_of c)) h)
     h
 
 -- ---- what every call leaves as it is
@@ -182,11 +199,9 @@ module _ (s : V830) (memory : Memory) where
       let ws : List ℕ = event_words (settings s) (event_of by s) in
       either_way Kept (eqb (mode s.control) 1) _ (kept memory (refused NotRandom s))
       (either_way Kept (ltb 0 (event_length (settings s))) _ (kept memory (refused NoWords s))
-      (either_way Kept (leb 100 s.clock.steps) _ (kept memory (refused Busy s))
       (either_way Kept (leb (event_length (settings s)) (free s.store).0) (accepted by s memory) (kept memory (refused TooFewFree s))
       (record { capacity = put_capacity s.store memory ws; words = put_keeps_length s.store memory ws })
       (unmoved TooFewFree))
-      (unmoved Busy))
       (unmoved NoWords))
       (unmoved NotRandom)
 
@@ -216,24 +231,17 @@ module _ (s : V830) (memory : Memory) where
   deed_keeps ReadTriggers = record { capacity = refl; words = refl }
   deed_keeps ReadEvents = number_keeps (events_in (settings s) s.store.stored.0)
 
--- every call, so much time after the one before, which leaves both as they were
-module _ (elapsed : ℕ) (s : V830) (memory : Memory) where
-  call_keeps : (c : Call) → Kept s memory (step_of elapsed s memory c)
+  call_keeps : (c : Call) → Kept (step_of s memory c)
   call_keeps c =
-      let K = Kept s memory in
-      let d = deed_keeps (waited elapsed s) memory (deed_of c) in
-      either_way K (formed s) _ (kept memory (refused Malformed s))
-      (either_way K (is_lent_right s memory c) (done_by (deed_of c) (waited elapsed s) memory) (kept memory (refused WrongMemory s))
-      (record { capacity = d.capacity; words = d.words })
-      (unmoved s memory WrongMemory))
-      (unmoved s memory Malformed)
+      either_way Kept (formed s) _ (kept memory (refused Malformed s))
+      (either_way Kept (is_lent_right s memory c) (done_by (deed_of c) s memory) (kept memory (refused WrongMemory s)) (deed_keeps (deed_of c)) (unmoved WrongMemory))
+      (unmoved Malformed)
 
   -- no call changes the capacity or the number of lent words
-  pub length_stays : (c : Call)
-      → ((step_of elapsed s memory c).outcome.state.store.capacity ≡ s.store.capacity) × (length (step_of elapsed s memory c).memory.words ≡ length memory.words)
+  pub length_stays : (c : Call) → ((step_of s memory c).outcome.state.store.capacity ≡ s.store.capacity) × (length (step_of s memory c).memory.words ≡ length memory.words)
   length_stays c = let k = call_keeps c in (k.capacity, k.words)
 
 -- a module that is not malformed and has its memory: what the gate asks
-pub sound_stays : (elapsed : ℕ) (s : V830) (memory : Memory) (c : Call) → length memory.words ≡ s.store.capacity.0
-    → length (step_of elapsed s memory c).memory.words ≡ (step_of elapsed s memory c).outcome.state.store.capacity.0
-sound_stays elapsed s memory c e = let k = length_stays elapsed s memory c in k.1 ∙ e ∙ sym (ap (λ (w : Words). w.0) k.0)
+pub sound_stays : (s : V830) (memory : Memory) (c : Call) → length memory.words ≡ s.store.capacity.0
+    → length (step_of s memory c).memory.words ≡ (step_of s memory c).outcome.state.store.capacity.0
+sound_stays s memory c e = let k = length_stays s memory c in k.1 ∙ e ∙ sym (ap (λ (w : Words). w.0) k.0)

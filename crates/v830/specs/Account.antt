@@ -20,37 +20,26 @@ use Rattle.v830.specs.State.{is_set, settings}
 use Rattle.v830.specs.Outcomes.{Step}
 use Rattle.v830.specs.Trigger.{event_of}
 use Rattle.v830.specs.Deeds.{deed_of}
-use Rattle.v830.specs.Time.{passed}
 use Rattle.v830.specs.Calls.{has_length, step_of}
 
--- a call, so much time after the one before, that is lent the module's memory, or, in its place, another one
+-- a call that is lent the module's memory, or, in its place, another one
 pub data Made : Type 0 where
-  lending : ℕ → Call → Made
-  lending_another : ℕ → Memory → Call → Made
+  lending : Call → Made
+  lending_another : Memory → Call → Made
 
 -- what a call leaves of the module and of its own memory
 abbrev pub made : Step → Made → Step
-made b (lending elapsed c) = step_of elapsed b.outcome.state b.memory c
-made b (lending_another elapsed other c) =
-    record { outcome = (step_of elapsed b.outcome.state other c).outcome; memory = b.memory }
+made b (lending c) = step_of b.outcome.state b.memory c
+made b (lending_another other c) = record { outcome = (step_of b.outcome.state other c).outcome; memory = b.memory }
 
 abbrev pub call_of : Made → Call
-call_of (lending elapsed c) = c
-call_of (lending_another elapsed other c) = c
-
--- the time since the one before
-abbrev pub time_of : Made → ℕ
-time_of (lending elapsed c) = elapsed
-time_of (lending_another elapsed other c) = elapsed
+call_of (lending c) = c
+call_of (lending_another other c) = c
 
 -- the memory that it is lent
 abbrev pub lent_to : Step → Made → Memory
-lent_to b (lending elapsed c) = b.memory
-lent_to b (lending_another elapsed other c) = other
-
--- the module that it acts on: what the passing of time leaves
-abbrev pub found : Step → Made → V830
-found b m = (passed (time_of m) b.outcome.state b.memory).state
+lent_to b (lending c) = b.memory
+lent_to b (lending_another other c) = other
 
 -- what demand 3 looks at: a memory read; a trigger; a write of Control by one of its three addresses; a CLEAR or
 -- reset; pulses on an input; a TEST pulse; nothing of it
@@ -136,17 +125,12 @@ no_move = record { handed = []; accepted = []; pulses = λ k. 0 }
 abbrev pub and_then : Move → Move → Move
 and_then m n = record { handed = m.handed ++ n.handed; accepted = m.accepted ++ n.accepted; pulses = λ k. m.pulses k + n.pulses k }
 
--- the passing of time hands out, accepts and admits nothing
-abbrev pub move_in_time : ℕ → Step → Move
-move_in_time elapsed b = no_move
-
--- a call is a move, by its role, of the module that it finds
+-- a call is a move, by its role
 abbrev pub move_by : V830 → Role → Answer → Move
 move_by s role answer = record { handed = handed_by role answer; accepted = accepted_by s role answer; pulses = λ k. admitted_by k s role answer }
 
--- time passes, then the call acts
 abbrev pub move_of : Step → Made → Move
-move_of b m = and_then (move_in_time (time_of m) b) (move_by (found b m) (role_in (call_of m)) (made b m).outcome.answer)
+move_of b m = move_by b.outcome.state (role_in (call_of m)) (made b m).outcome.answer
 
 -- the account of a list of calls: what the last one leaves, and their moves one after the other
 pub record Account : Type 0 where
@@ -228,8 +212,8 @@ goes_on b m = not (ends_with (role_in (call_of m)) (made b m).outcome.answer)
 
 -- another memory is one of another length
 abbrev pub other : Step → Made → Bool
-other b (lending elapsed c) = true
-other b (lending_another elapsed memory c) = not (has_length b.outcome.state memory)
+other b (lending c) = true
+other b (lending_another memory c) = not (has_length b.outcome.state memory)
 
 -- channel k is enabled
 abbrev pub stays : ℕ → Step → Made → Bool

@@ -7,7 +7,7 @@ use Rattle.meb.specs.Stores.{emptied}
 use Rattle.v830.specs.declared.Outcome.{Outcome}
 use Rattle.v830.specs.declared.deeds.Source.{Source}
 use Rattle.v830.specs.declared.V830.{V830}
-use Rattle.v830.specs.State.{counting, controlling, storing, timing, tallying, with_triggers, with_steps, is_set, zeros}
+use Rattle.v830.specs.State.{counting, controlling, storing, tallying, with_triggers, is_set, zeros}
 use Rattle.v830.specs.Outcomes.{done, unless}
 
 -- one pulse on input k: "V830 VETO stops inputs"; "Disabled channels still count."
@@ -26,12 +26,6 @@ tested s = counting (map (next 32) s.counts) s
 abbrev pub cleared : Source → V830 → V830
 cleared by s = counting zeros (storing (cond (is_set 6 s.control) (emptied s.store) s.store) s)
 
--- "Any of these three writes also zeroes counters and Trigger Counter and empties the memory."; "accepted
--- Control-group writes set it to 100", the steps (document 02, M-101)
+-- "Any of these three writes also zeroes counters and Trigger Counter and empties the memory."
 abbrev pub restarted : ℕ → V830 → V830
-restarted control s =
-    counting zeros
-    (tallying (with_triggers 0 s.tallies)
-    (timing (with_steps 100 s.clock)
-    (storing (emptied s.store)
-    (controlling control s))))
+restarted control s = counting zeros (tallying (with_triggers 0 s.tallies) (storing (emptied s.store) (controlling control s)))

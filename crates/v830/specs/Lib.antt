@@ -4,10 +4,8 @@ pub mod Counting
 pub mod Trigger
 pub mod Registers
 pub mod Deeds
-pub mod Time
 pub mod Calls
 pub mod Numbers
 pub mod Account
 pub mod Stretch
-pub mod Recent
 pub mod Reckoned

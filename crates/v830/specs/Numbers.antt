@@ -1,5 +1,5 @@
 -- T1's words for the V830: what a refused call leaves, and the number that each call gets, line by line of document
--- 01 in its order 12, 10, 1, 2, 3, 11, 4, 6, 5, 7, 8, 9, with 13 after 8 (document 02, M-101). Assumes nothing.
+-- 01 in its order 12, 10, 1, 2, 3, 11, 4, 6, 5, 7, 8, 9. Assumes nothing.
 use Rattle.std.specs.Prelude.{ℕ, ◌≡◌, Bool, false, cond, ◌&&◌, not, eqb, leb, ltb, length}
 use Rattle.bus.specs.Answers.{number_of, value_of, is_done}
 use Rattle.bus.specs.Table.{table_number}
@@ -12,40 +12,33 @@ use Rattle.v830.specs.declared.deeds.Deed.{Deed}
 use Rattle.v830.specs.declared.deeds.Deed.TheVariants.{Refuse, Pulses, Veto, Test, Clear, Trigger, HandOut, ReadCounter, ReadEnable, WriteEnable, ReadControl, WriteControl, SetBits, ClearBits, Reset, ReadTriggers, ReadEvents}
 use Rattle.v830.specs.declared.V830.{V830}
 use Rattle.v830.specs.State.{mode, settings, formed}
-use Rattle.v830.specs.Outcomes.{Step, Board}
+use Rattle.v830.specs.Outcomes.{Step}
 use Rattle.v830.specs.Registers.{registers, as_written, with_bits, without_bits}
 use Rattle.v830.specs.Deeds.{deed_at}
-use Rattle.v830.specs.Time.{passed}
-use Rattle.v830.specs.Calls.{is_lent_right, passes}
+use Rattle.v830.specs.Calls.{is_lent_right}
 
--- what a refused call leaves: "A refused call still lets the time pass, but for 10 and 12, which keep the old state
--- whole" (document 02, M-101); "lent memory is untouched"
-abbrev pub left_by : ℕ → V830 → Memory → Call → Board
-left_by elapsed s memory c = cond (passes s memory c) (passed elapsed s memory) (record { state = s; memory = memory })
-
--- a call that, if it refuses, leaves this: "Every one returns its number, value 0 .. and the old state"
-abbrev pub Same : Board → Step → Type 0
-Same b r = is_done r.outcome.answer ≡ false → (r.outcome.state ≡ b.state) × (r.memory ≡ b.memory) × (value_of r.outcome.answer ≡ 0)
+-- what a call leaves that, if it refuses, changes nothing: "Every one returns its number, value 0 .. and the old
+-- state"; "lent memory is untouched"
+abbrev pub Same : V830 → Memory → Step → Type 0
+Same s memory r = is_done r.outcome.answer ≡ false → (r.outcome.state ≡ s) × (r.memory ≡ memory) × (value_of r.outcome.answer ≡ 0)
 
 -- a link of the chain of numbers: this one, unless its line does not hold; else what comes after it
 abbrev pub unless_number : Bool → ℕ → ℕ → ℕ
 unless_number holds number after = cond holds after number
 
--- 7: "mode is not random"; 8: "the event would have no words"; 13: "busy, exactly when the steps held are below 100";
--- 9: "free words are fewer than the event's"
+-- 7: "mode is not random"; 8: "the event would have no words"; 9: "free words are fewer than the event's"
 abbrev pub trigger_number : V830 → ℕ
 trigger_number s =
     unless_number (eqb (mode s.control) 1) 7
     (unless_number (ltb 0 (event_length (settings s))) 8
-    (unless_number (leb 100 s.clock.steps) 13
-    (unless_number (leb (event_length (settings s)) (free s.store).0) 9 0)))
+    (unless_number (leb (event_length (settings s)) (free s.store).0) 9 0))
 
 -- 4: "a Control result with both low bits 1"
 abbrev pub control_number : ℕ → ℕ
 control_number result = unless_number (not (eqb (mode result) 3)) 4 0
 
 -- what a deed gives: 11: "channel not below .. 32"; 4; 6: "Channel Enable written while words are stored"; 5: "V830
--- memory read, nothing stored"; 7, 8, 13, 9
+-- memory read, nothing stored"; 7, 8, 9
 abbrev pub deed_number : V830 → Deed → ℕ
 deed_number s (Refuse why) = number_of why
 deed_number s (Pulses k n) = unless_number (ltb k 32) 11 0
@@ -75,13 +68,9 @@ call_number s call.TriggerLine = trigger_number s
 call_number s (call.Access a) = table_number 0 registers a (λ row. deed_number s (deed_at row 0 a))
 call_number s call.ManClr = 4
 
--- 12: "state record .. malformed"; 10: "lent memory has not the length fixed at the start"; then what the call gets of
--- the module that the passing of time leaves
-abbrev pub number_for : ℕ → V830 → Memory → Call → ℕ
-number_for elapsed s memory c =
-    unless_number (formed s) 12
-    (unless_number (is_lent_right s memory c) 10
-    (call_number (passed elapsed s memory).state c))
+-- 12: "state record .. malformed"; 10: "lent memory has not the length fixed at the start"
+abbrev pub number_for : V830 → Memory → Call → ℕ
+number_for s memory c = unless_number (formed s) 12 (unless_number (is_lent_right s memory c) 10 (call_number s c))
 
 -- the start: 12: "GEO above 31"; 10: "outside 1 to 32,768 words"
 abbrev pub start_number : ℕ → Memory → ℕ

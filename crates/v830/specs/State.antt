@@ -1,52 +1,42 @@
--- Document 01, "V830 store" and number 12: what the registers of a V830 mean, and which records are malformed; the
--- steps that it holds are document 02's (M-101). Assumes nothing.
+-- Document 01, "V830 store" and number 12: what the registers of a V830 mean, and which records are malformed.
+-- Assumes nothing.
 use Rattle.std.specs.Prelude.{ℕ, ◌%◌, Bool, false, ◌&&◌, ◌||◌, not, List, eqb, leb, replicate}
 use Rattle.count.specs.Counter.{bit}
 use Rattle.layout.specs.declared.Settings.{Settings}
 use Rattle.layout.specs.Length.{event_length}
 use Rattle.meb.specs.declared.Store.{Store}
 use Rattle.meb.specs.Stores.{empty_of, fits}
-use Rattle.v830.specs.declared.Clock.{Clock}
 use Rattle.v830.specs.declared.Tallies.{Tallies}
 use Rattle.v830.specs.declared.V830.{V830}
 
--- the module with another part: its counts, Channel Enable, Control, the VETO line, the event memory, its clock, what
--- is tallied
+-- the module with another part: its counts, Channel Enable, Control, the VETO line, the event memory, what is tallied
 abbrev pub counting : List ℕ → V830 → V830
 counting counts s =
-    record { counts = counts; enable = s.enable; geo = s.geo; store = s.store; clock = s.clock; tallies = s.tallies; control = s.control; veto = s.veto }
+    record { counts = counts; enable = s.enable; geo = s.geo; store = s.store; tallies = s.tallies; control = s.control; veto = s.veto }
 
 abbrev pub enabling : ℕ → V830 → V830
 enabling enable s =
-    record { counts = s.counts; enable = enable; geo = s.geo; store = s.store; clock = s.clock; tallies = s.tallies; control = s.control; veto = s.veto }
+    record { counts = s.counts; enable = enable; geo = s.geo; store = s.store; tallies = s.tallies; control = s.control; veto = s.veto }
 
 abbrev pub controlling : ℕ → V830 → V830
 controlling control s =
-    record { counts = s.counts; enable = s.enable; geo = s.geo; store = s.store; clock = s.clock; tallies = s.tallies; control = control; veto = s.veto }
+    record { counts = s.counts; enable = s.enable; geo = s.geo; store = s.store; tallies = s.tallies; control = control; veto = s.veto }
 
 abbrev pub vetoed : Bool → V830 → V830
 vetoed on s =
-    record { counts = s.counts; enable = s.enable; geo = s.geo; store = s.store; clock = s.clock; tallies = s.tallies; control = s.control; veto = on }
+    record { counts = s.counts; enable = s.enable; geo = s.geo; store = s.store; tallies = s.tallies; control = s.control; veto = on }
 
 abbrev pub storing : Store → V830 → V830
 storing store s =
-    record { counts = s.counts; enable = s.enable; geo = s.geo; store = store; clock = s.clock; tallies = s.tallies; control = s.control; veto = s.veto }
-
-abbrev pub timing : Clock → V830 → V830
-timing clock s =
-    record { counts = s.counts; enable = s.enable; geo = s.geo; store = s.store; clock = clock; tallies = s.tallies; control = s.control; veto = s.veto }
+    record { counts = s.counts; enable = s.enable; geo = s.geo; store = store; tallies = s.tallies; control = s.control; veto = s.veto }
 
 abbrev pub tallying : Tallies → V830 → V830
 tallying tallies s =
-    record { counts = s.counts; enable = s.enable; geo = s.geo; store = s.store; clock = s.clock; tallies = tallies; control = s.control; veto = s.veto }
+    record { counts = s.counts; enable = s.enable; geo = s.geo; store = s.store; tallies = tallies; control = s.control; veto = s.veto }
 
 -- the tallies with another Trigger Counter
 abbrev pub with_triggers : ℕ → Tallies → Tallies
 with_triggers n t = record { triggers = n }
-
--- the clock with other steps since the last accepted trigger
-abbrev pub with_steps : ℕ → Clock → Clock
-with_steps n c = record { steps = n }
 
 -- "Control bits: 0 and 1 mode, as a number with bit 1 high (0 disabled, 1 random, 2 periodical)"
 abbrev pub mode : ℕ → ℕ
@@ -69,12 +59,12 @@ abbrev pub explained : V830 → Bool
 explained s = eqb s.store.stored.0 0 || not (eqb (event_length (settings s)) 0)
 
 -- 12: "GEO above 31", a store out of its bounds, that, and "mode bits both 1"; a count of 32 bits is never above its
--- width; "12 also for steps above 100" (document 02, M-101)
+-- width
 unfoldable pub formed : V830 → Bool
-formed s = leb s.geo 31 && fits s.store && explained s && not (eqb (mode s.control) 3) && leb s.clock.steps 100
+formed s = leb s.geo 31 && fits s.store && explained s && not (eqb (mode s.control) 3)
 
 -- power-on with this Control: Channel Enable "all ones", since section 3.6 of 002 is silent; counters, Trigger
--- Counter and memory empty, VETO off; "power-on .. set it to 100", the steps
+-- Counter and memory empty, VETO off
 abbrev pub power_on : ℕ → ℕ → ℕ → V830
 power_on control geo capacity =
     record {
@@ -82,7 +72,6 @@ power_on control geo capacity =
       enable = 0xFFFFFFFF;
       geo = geo;
       store = empty_of capacity;
-      clock = record { steps = 100 };
       tallies = record { triggers = 0 };
       control = control;
       veto = false;

@@ -13,30 +13,28 @@ use Rattle.v830.specs.Outcomes.{Step}
 use Rattle.v830.specs.Calls.{has_length, step_of}
 use Rattle.v830.specs.Account.{Made, writes_control, role_in, Fits, goes_on, other, each}
 
--- what the Control write leaves, so much time after the call before it, of a V830 `before` that is lent this memory
-abbrev pub begun : ℕ → V830 → Memory → Access → Step
-begun elapsed before memory write = step_of elapsed before memory (call.Access write)
+-- what the Control write leaves, of a V830 `before` that is lent this memory
+abbrev pub begun : V830 → Memory → Access → Step
+begun before memory write = step_of before memory (call.Access write)
 
 -- a Control write, and any calls from there on
-pub record Stretch (elapsed : ℕ) (before : V830) (memory : Memory) (write : Access) (calls : List Made) : Type 0 where
+pub record Stretch (before : V830) (memory : Memory) (write : Access) (calls : List Made) : Type 0 where
   -- "V830": 32 counters and a Channel Enable of 32 bits, as every record of the code has them
   pub fits : Fits before
   -- "from the Control write": to one of Control's three addresses, and not refused
   pub control : role_in (call.Access write) ≡ writes_control
-  pub not_refused : is_done (begun elapsed before memory write).outcome.answer ≡ true
+  pub not_refused : is_done (begun before memory write).outcome.answer ≡ true
   -- "that set this": "random trigger, AUTO RESET"
-  pub random : mode (begun elapsed before memory write).outcome.state.control ≡ 1
-  pub auto_reset : is_set 7 (begun elapsed before memory write).outcome.state.control ≡ true
+  pub random : mode (begun before memory write).outcome.state.control ≡ 1
+  pub auto_reset : is_set 7 (begun before memory write).outcome.state.control ≡ true
   -- up to the next such write, or a CLEAR or a reset, that is not refused
-  pub goes : each goes_on calls (begun elapsed before memory write) ≡ true
+  pub goes : each goes_on calls (begun before memory write) ≡ true
   -- a call that is lent another memory is lent one of another length (and answers 10, where it looks at it)
-  pub others : each other calls (begun elapsed before memory write) ≡ true
+  pub others : each other calls (begun before memory write) ≡ true
 
--- "a trigger is neglected only for a reason in document 01", which "includes" document 02's 13 (M-101): the number,
--- and its line there, of the module that the trigger finds. Within the stretch the mode is random and the record not
--- malformed, so that 7 and 12 are none.
+-- "a trigger is neglected only for a reason in document 01": the number, and its line there. Within the stretch the
+-- mode is random and the record not malformed, so that 7 and 12 are none.
 pub data Reason (s : V830) (memory : Memory) : ℕ → Type 0 where
   wrong_memory : has_length s memory ≡ false → Reason s memory 10
   no_words : ltb 0 (event_length (settings s)) ≡ false → Reason s memory 8
-  busy : ltb s.clock.steps 100 ≡ true → Reason s memory 13
   too_few_free : leb (event_length (settings s)) (free s.store).0 ≡ false → Reason s memory 9

@@ -1,6 +1,6 @@
--- Document 01, "V830 store" and "Event layout", and document 02, M-101: what a trigger does. Assumes nothing.
+-- Document 01, "V830 store" and "Event layout": what a trigger does. Assumes nothing.
 use Rattle.std.specs.Prelude.{ℕ, ◌/◌, ◌%◌, ◌^◌, Bool, cond, List, [], ◌∷◌, eqb, leb, ltb}
-use Rattle.bus.specs.declared.Answer.TheVariants.{NotRandom, NoWords, TooFewFree, Busy}
+use Rattle.bus.specs.declared.Answer.TheVariants.{NotRandom, NoWords, TooFewFree}
 use Rattle.count.specs.Counter.{next}
 use Rattle.layout.specs.declared.Event.{Event}
 use Rattle.layout.specs.Layout.{event_words}
@@ -12,7 +12,7 @@ use Rattle.meb.specs.Stores.{Filled, free, put_of}
 use Rattle.v830.specs.declared.deeds.Source.{Source}
 use Rattle.v830.specs.declared.deeds.Source.TheVariants.{Line, Register}
 use Rattle.v830.specs.declared.V830.{V830}
-use Rattle.v830.specs.State.{counting, storing, timing, tallying, with_triggers, with_steps, mode, is_set, settings, zeros}
+use Rattle.v830.specs.State.{counting, storing, tallying, with_triggers, mode, is_set, settings, zeros}
 use Rattle.v830.specs.Outcomes.{Step, done, unless_lent}
 
 -- section 3.2 of 002: the trigger's source is 1, "external", by the line, and 0, "VME request", by the register
@@ -42,13 +42,12 @@ event_of by s =
     }
 
 -- "adds one to the 32-bit Trigger Counter (wrapping), stores the event at once, and with AUTO RESET zeroes all 32
--- counters"; the steps are those "since the last accepted trigger" (document 02, M-101)
+-- counters"
 abbrev pub counted : Store → V830 → V830
 counted store s =
     counting (cond (is_set 7 s.control) zeros s.counts)
     (tallying (with_triggers (next 32 s.tallies.triggers) s.tallies)
-    (timing (with_steps 0 s.clock)
-    (storing store s)))
+    (storing store s))
 
 -- the store and the memory with the event's words
 abbrev pub filled_by : Source → V830 → Memory → Filled
@@ -57,13 +56,11 @@ filled_by by s memory = put_of s.store memory (event_words (settings s) (event_o
 abbrev pub accepted : Source → V830 → Memory → Step
 accepted by s memory = record { outcome = done 0 (counted (filled_by by s memory).store s); memory = (filled_by by s memory).memory }
 
--- 7: "trigger, mode is not random"; 8: "the event would have no words"; 13: "busy, exactly when the steps held are
--- below 100, after 8 and before 9" (document 02, M-101); 9: "trigger, free words are fewer than the event's"; "A
--- neglected trigger .. changes nothing."
+-- 7: "trigger, mode is not random"; 8: "the event would have no words"; 9: "trigger, free words are fewer than the
+-- event's"; "A neglected trigger (7, 8, 9) changes nothing. BUSY time is taken as nothing."
 abbrev pub triggered : Source → V830 → Memory → Step
 triggered by s memory =
     unless_lent (eqb (mode s.control) 1) NotRandom s memory
     (unless_lent (ltb 0 (event_length (settings s))) NoWords s memory
-    (unless_lent (leb 100 s.clock.steps) Busy s memory
     (unless_lent (leb (event_length (settings s)) (free s.store).0) TooFewFree s memory
-    (accepted by s memory))))
+    (accepted by s memory)))

@@ -1,9 +1,9 @@
-// The calls of a V830, by one door: the gate, 12 and 10, then time passes, then the deed.
+// The calls of a V830, by one door: the gate, 12 and 10, then the deed.
 ghost use Rattle.std.specs.Prelude.{◌≡◌, true, ◌<◌, length};
 ghost use Rattle.meb.specs.Ring.{lent};
 ghost use Rattle.v830.specs.State.{formed};
 ghost use Rattle.v830.specs.Deeds.{done_by, counter_of};
-ghost use Rattle.v830.specs.Calls.{is_lent, has_length, is_lent_right, gate_of, acted_on, step_of};
+ghost use Rattle.v830.specs.Calls.{is_lent, has_length, is_lent_right, gate_of, step_of};
 
 use crate::counting::{cleared, pulsed, tested, vetoed};
 use crate::deeds::{Deed, of_call};
@@ -11,7 +11,6 @@ use crate::registers::{
     clear_bits, controlled, counter, event_number, hand_out, reset, set_bits, write_enable,
 };
 use crate::state::is_formed;
-use crate::time::waited;
 use crate::trigger::triggered;
 use crate::{Call, Outcome, V830, done, refused};
 use bus::Answer;
@@ -90,17 +89,9 @@ fn perform(deed: Deed, s: V830, memory: &mut [u32]) -> Outcome
     }
 }
 
-// Time passes, then the call acts on the module that this leaves.
-fn acted(s: V830, elapsed: u32, memory: &mut [u32], call: Call) -> Outcome
-    requires { formed s ≡ true }
-    ensures { (result ≡ (acted_on elapsed s (lent memory.old) call).outcome) × (memory.new ≡ (acted_on elapsed s (lent memory.old) call).memory.words) }
-{
-    perform(of_call(call), waited(elapsed, s), memory)
-}
-
-// Any call, so many steps of 10 ns after the one before: the gate, then time passes, then the deed.
-pub fn step(s: V830, elapsed: u32, memory: &mut [u32], call: Call) -> Outcome
-    ensures { (result ≡ (step_of elapsed s (lent memory.old) call).outcome) × (memory.new ≡ (step_of elapsed s (lent memory.old) call).memory.words) }
+// Any call: the gate, then the deed.
+pub fn step(s: V830, memory: &mut [u32], call: Call) -> Outcome
+    ensures { (result ≡ (step_of s (lent memory.old) call).outcome) × (memory.new ≡ (step_of s (lent memory.old) call).memory.words) }
 {
     if !is_formed(s) {
         return refused(Answer::Malformed, s);
@@ -108,14 +99,14 @@ pub fn step(s: V830, elapsed: u32, memory: &mut [u32], call: Call) -> Outcome
     if !is_lent_right(s, memory, call) {
         return refused(Answer::WrongMemory, s);
     }
-    acted(s, elapsed, memory, call)
+    perform(of_call(call), s, memory)
 }
 
 // The inner door, for proved callers that carry along that the module is not malformed and has its memory: any call,
 // 12 and 10 not asked again.
-pub fn step_formed(s: V830, elapsed: u32, memory: &mut [u32], call: Call) -> Outcome
+pub fn step_formed(s: V830, memory: &mut [u32], call: Call) -> Outcome
     requires { (formed s ≡ true) × (length memory.old ≡ s.store.capacity.0) }
-    ensures { (result ≡ (step_of elapsed s (lent memory.old) call).outcome) × (memory.new ≡ (step_of elapsed s (lent memory.old) call).memory.words) }
+    ensures { (result ≡ (step_of s (lent memory.old) call).outcome) × (memory.new ≡ (step_of s (lent memory.old) call).memory.words) }
 {
-    acted(s, elapsed, memory, call)
+    perform(of_call(call), s, memory)
 }

@@ -12,7 +12,6 @@ mod counting;
 mod deeds;
 mod registers;
 mod state;
-mod time;
 mod trigger;
 
 pub use calls::{gate, step, step_formed};
@@ -66,17 +65,10 @@ pub struct Tallies {
     pub triggers: u32,
 }
 
-// What time moves: the steps of 10 ns since the last accepted trigger, stopping at 100.
-#[derive(Drop)]
-pub struct Clock {
-    pub steps: u32,
-}
-
-// The counters, the clock, Channel Enable, GEO, the event memory, the tallies, Control and the VETO line.
+// The counters, Channel Enable, GEO, the event memory, the tallies, Control and the VETO line.
 #[derive(Drop)]
 pub struct V830 {
     pub counts: [u32; 32],
-    pub clock: Clock,
     pub enable: u32,
     pub geo: u32,
     pub store: Store,

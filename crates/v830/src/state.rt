@@ -1,8 +1,8 @@
 // What the registers of a V830 mean, and whether its record is one that there is.
 ghost use Rattle.std.specs.Prelude.{◌≡◌};
-ghost use Rattle.v830.specs.State.{is_set, mode, settings, explained, formed, power_on, with_triggers, with_steps};
+ghost use Rattle.v830.specs.State.{is_set, mode, settings, explained, formed, power_on, with_triggers};
 
-use crate::{Clock, Tallies, V830};
+use crate::{Tallies, V830};
 use layout::Settings;
 
 // A V830 as it is at power-on, with this Control.
@@ -10,14 +10,12 @@ pub(crate) fn power_on(control: u8, geo: u32, capacity: u32) -> V830
     ensures { result ≡ power_on control geo capacity }
 {
     let store = meb::empty(capacity);
-    let clock = Clock { steps: 100 };
     let tallies = Tallies { triggers: 0 };
     V830 {
         counts: [0; 32],
         enable: 4294967295,
         geo,
         store,
-        clock,
         tallies,
         control,
         veto: false,
@@ -31,15 +29,6 @@ pub(crate) fn with_triggers(n: u32, t: Tallies) -> Tallies
     let mut t = t;
     t.triggers = n;
     t
-}
-
-// The clock with other steps since the last accepted trigger.
-pub(crate) fn with_steps(n: u32, c: Clock) -> Clock
-    ensures { result ≡ with_steps n c }
-{
-    let mut c = c;
-    c.steps = n;
-    c
 }
 
 // Whether a bit of Control is set.
@@ -99,9 +88,5 @@ pub(crate) fn is_formed(s: V830) -> bool
     if !is_explained(s) {
         return false;
     }
-    if mode(s.control) == 3 {
-        return false;
-    }
-    let clock = s.clock;
-    clock.steps <= 100
+    mode(s.control) != 3
 }

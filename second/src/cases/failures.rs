@@ -83,7 +83,7 @@ fn a_failure_at_once_leaves_what_every_listing_begins_with() {
         let title = match kind {
             Kind::Logs => CASES_TITLE,
             Kind::Entries => ENTRIES_TITLE,
-            Kind::Replay | Kind::ReplayTimed => REPLAY_TITLE,
+            Kind::Replay => REPLAY_TITLE,
             // A fault of their heads stands alone, so they have no title before a whole head.
             Kind::Blocks | Kind::Makeblock | Kind::Trace => "",
         };
@@ -203,9 +203,9 @@ fn a_trace_is_cut_without_its_memory() {
     for length in 0..36 {
         assert_eq!(cut(Kind::Trace, &input[..length]), "failed read 11\n");
     }
-    let start = line("0 0 0 1 0 4294967295 0 0 2 0 0 100", 44);
-    let trigger = line("1 7 0 1 0 4294967295 0 0 2 0 0 100", 44);
-    let pulses = line("2 0 0 1 0 4294967295 0 0 2 0 0 100 4", 44);
+    let start = line("0 0 0 1 0 4294967295 0 0 2", 43);
+    let trigger = line("1 7 0 1 0 4294967295 0 0 2", 43);
+    let pulses = line("2 0 0 1 0 4294967295 0 0 2 0 0 4", 43);
     for length in 36..=40 {
         let listed = match length {
             36 => start.clone(),

@@ -4,7 +4,6 @@
 pub mod block;
 pub mod failures;
 pub mod replay;
-pub mod timed;
 pub mod trace;
 pub mod v260;
 pub mod v560;

@@ -46,16 +46,16 @@ fn marked_seven_and_nine() {
             |line: &str, place: &str| format!("{} 1 {} 5 {} 7 0 9{}\n", line, control, place, rest);
         let none = zeros(32);
         let expected = [
-            format!("0 0 0 1 0 4294967295 0 0 4 0 0 100{}\n", none),
-            format!("1 0 0 1 0 5 0 0 4 0 0 100{}\n", none),
-            format!("2 0 0 1 {} 5 0 0 4 0 0 100{}\n", control, none),
-            format!("3 0 0 1 {} 5 0 0 4 0 0 100 7{}\n", control, zeros(31)),
-            counted("4 0 0", "0 0 4 0 0 100"),
-            counted("5 0 0", "1 0 4 0 3 0"),
-            counted("6 0 201850881", "1 0 4 1 2 100"),
-            counted("7 0 7", "1 0 4 2 1 100"),
-            counted(&format!("8 0 {}", last), "1 0 4 3 0 100"),
-            counted("9 5 0", "1 0 4 3 0 100"),
+            format!("0 0 0 1 0 4294967295 0 0 4 0 0{}\n", none),
+            format!("1 0 0 1 0 5 0 0 4 0 0{}\n", none),
+            format!("2 0 0 1 {} 5 0 0 4 0 0{}\n", control, none),
+            format!("3 0 0 1 {} 5 0 0 4 0 0 7{}\n", control, zeros(31)),
+            counted("4 0 0", "0 0 4 0 0"),
+            counted("5 0 0", "1 0 4 0 3"),
+            counted("6 0 201850881", "1 0 4 1 2"),
+            counted("7 0 7", "1 0 4 2 1"),
+            counted(&format!("8 0 {}", last), "1 0 4 3 0"),
+            counted("9 5 0", "1 0 4 3 0"),
             format!("memory 201850881 7 {} 4\n", last),
         ];
         assert_eq!(listing(number), expected.concat());
@@ -66,23 +66,22 @@ fn marked_seven_and_nine() {
 fn marked_65_and_66_words() {
     // The header of 32 channels: 04800000, source 1 (10000) and trigger 1, that is 75563009.
     let start = |capacity: u32| {
-        let line = |front: &str| format!("{} 0 0 {} 0 0 100{}\n", front, capacity, zeros(32));
+        let line = |front: &str| format!("{} 0 0 {} 0 0{}\n", front, capacity, zeros(32));
         line("0 0 0 0 0 4294967295")
             + &line("1 0 0 0 0 4294967295")
             + &line("2 0 0 0 33 4294967295")
     };
-    // The steps are 0 behind an accepted trigger, and 100 again behind the next call.
-    let line = |front: &str, triggers: u32, capacity: u32, stored: u32, steps: u32| {
-        let columns = format!("{} 0 {} 0 {} {}", triggers, capacity, stored, steps);
+    let line = |front: &str, triggers: u32, capacity: u32, stored: u32| {
+        let columns = format!("{} 0 {} 0 {}", triggers, capacity, stored);
         format!("{} 0 33 4294967295 {}{}\n", front, columns, zeros(32))
     };
-    let mut expected = start(65) + &line("3 0 0", 1, 65, 33, 0) + &line("4 9 0", 1, 65, 33, 100);
-    expected += &line("5 0 1", 1, 65, 33, 100);
+    let mut expected = start(65) + &line("3 0 0", 1, 65, 33) + &line("4 9 0", 1, 65, 33);
+    expected += &line("5 0 1", 1, 65, 33);
     let untouched: String = (34..=65).map(|word| format!(" {}", word)).collect();
     expected += &format!("memory 75563009{}{}\n", zeros(32), untouched);
     assert_eq!(listing(2), expected);
-    let mut expected = start(66) + &line("3 0 0", 1, 66, 33, 0) + &line("4 0 0", 2, 66, 66, 0);
-    expected += &line("5 0 2", 2, 66, 66, 100);
+    let mut expected = start(66) + &line("3 0 0", 1, 66, 33) + &line("4 0 0", 2, 66, 66);
+    expected += &line("5 0 2", 2, 66, 66);
     expected += &format!("memory 75563009{} 75563010{}\n", zeros(32), zeros(32));
     assert_eq!(listing(3), expected);
 }
@@ -92,16 +91,16 @@ fn marked_one_word_with_auto_reset() {
     // Control 81 is 129.
     let line = |front: &str, columns: &str| format!("{} {}{}\n", front, columns, zeros(31));
     let expected = [
-        line("0 0 0 0 0 4294967295", "0 0 1 0 0 100 0"),
-        line("1 0 0 0 0 1", "0 0 1 0 0 100 0"),
-        line("2 0 0 0 129 1", "0 0 1 0 0 100 0"),
-        line("3 0 0 0 129 1", "0 0 1 0 0 100 4"),
-        line("4 0 0 0 129 1", "1 0 1 0 1 0 0"),
-        line("5 0 0 0 129 1", "1 0 1 0 1 100 3"),
-        line("6 9 0 0 129 1", "1 0 1 0 1 100 3"),
-        line("7 0 0 0 129 1", "1 0 1 0 1 100 5"),
-        line("8 0 4 0 129 1", "1 0 1 0 0 100 5"),
-        line("9 0 5 0 129 1", "1 0 1 0 0 100 5"),
+        line("0 0 0 0 0 4294967295", "0 0 1 0 0 0"),
+        line("1 0 0 0 0 1", "0 0 1 0 0 0"),
+        line("2 0 0 0 129 1", "0 0 1 0 0 0"),
+        line("3 0 0 0 129 1", "0 0 1 0 0 4"),
+        line("4 0 0 0 129 1", "1 0 1 0 1 0"),
+        line("5 0 0 0 129 1", "1 0 1 0 1 3"),
+        line("6 9 0 0 129 1", "1 0 1 0 1 3"),
+        line("7 0 0 0 129 1", "1 0 1 0 1 5"),
+        line("8 0 4 0 129 1", "1 0 1 0 0 5"),
+        line("9 0 5 0 129 1", "1 0 1 0 0 5"),
         "memory 4\n".to_string(),
     ];
     assert_eq!(listing(4), expected.concat());
@@ -112,7 +111,7 @@ fn refused_starts_and_the_memory_line() {
     // 830, GEO 32, 2 words, counts 3: 12, and so is MAN CLR behind it; then a fault of the log.
     let input = [&[0xBE, 6, 32, 2][..], &[3; 32], &[7, 8]].concat();
     let counts = " 3".repeat(32);
-    let line = |front: &str| format!("{} 0 0 4294967295 0 0 0 0 0 100{}\n", front, counts);
+    let line = |front: &str| format!("{} 0 0 4294967295 0 0 0 0 0{}\n", front, counts);
     let expected = line("0 12 0") + &line("1 12 0") + "fault 33 37\nmemory 1 2\n";
     assert_eq!(own_trace(&input), TITLE_830.to_string() + &expected);
     // No words: 10, and the word memory alone.

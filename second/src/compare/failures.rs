@@ -54,9 +54,7 @@ fn compare_all(program: &Program, kind: Kind, inputs: &[Input]) -> Result<String
 /// Where the inputs of a kind can be cut, as `cut_in` tells it.
 fn possible(kind: Kind) -> &'static [&'static str] {
     match kind {
-        Kind::Logs | Kind::Entries | Kind::Replay | Kind::ReplayTimed => {
-            &[INSIDE, BETWEEN, NOT_CUT]
-        }
+        Kind::Logs | Kind::Entries | Kind::Replay => &[INSIDE, BETWEEN, NOT_CUT],
         Kind::Blocks | Kind::Trace => &[IN_HEAD, INSIDE, BETWEEN, NOT_CUT],
         Kind::Makeblock => &[IN_HEAD, NOT_CUT],
     }

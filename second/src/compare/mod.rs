@@ -10,7 +10,6 @@ pub mod ledger;
 pub mod logs;
 pub mod makeblock;
 pub mod replay;
-pub mod replay_timed;
 pub mod run;
 pub mod runs;
 pub mod shrink;

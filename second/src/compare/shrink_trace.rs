@@ -1,11 +1,10 @@
-//! Makes a failing input of `trace` or of a replay smaller: fewer entries, plainer heads, fewer pulses, plainer times.
+//! Makes a failing input of `trace` smaller: fewer entries, plainer heads, fewer pulses.
 
 use crate::compare::shrink::{smaller_inputs, stretches};
-use crate::listings::replay::head_of;
-use crate::listings::trace::steps_from;
-use crate::listings::trace_head::{input_of_steps, read_head, Head, HeadSwitches};
-use crate::model::module::{Call, Step};
-use crate::model::timed_log::Log;
+use crate::listings::replay::replay_head;
+use crate::listings::trace::entries_from;
+use crate::listings::trace_head::{input_of, read_head, Head, HeadSwitches};
+use crate::model::module::Call;
 
 /// The inputs one step below an input: less entries, the most first, then plainer ones.
 pub fn smaller_traces(input: &[u8]) -> Vec<Vec<u8>> {
@@ -13,57 +12,36 @@ pub fn smaller_traces(input: &[u8]) -> Vec<Vec<u8>> {
         Err(_) => return smaller_inputs(input),
         Ok(head) => head,
     };
-    let (steps, fault) = steps_from(&head, input, place);
+    let (entries, fault) = entries_from(input, place);
+    let calls: Vec<Call> = entries.iter().map(Call::of).collect();
     let rest = fault.map_or(&input[..0], |(_, place)| &input[place..]);
     let mut all = Vec::new();
     if !rest.is_empty() {
-        all.push(input_of_steps(&head, &steps, &[]));
+        all.push(input_of(&head, &calls, &[]));
     }
-    let mut removed = stretches(steps.len());
-    removed.sort_by_key(|(from, to)| from + steps.len() - to);
+    let mut removed = stretches(calls.len());
+    removed.sort_by_key(|(from, to)| from + calls.len() - to);
     for (from, to) in removed {
-        let kept = [&steps[..from], &steps[to..]].concat();
-        all.push(input_of_steps(&head, &kept, rest));
+        let kept = [&calls[..from], &calls[to..]].concat();
+        all.push(input_of(&head, &kept, rest));
     }
     for plainer in plainer_heads(&head) {
-        all.push(input_of_steps(&plainer, &steps, rest));
+        all.push(input_of(&plainer, &calls, rest));
     }
-    for at in 0..steps.len() {
-        for plainer in plainer_steps(head.log(), steps[at]) {
-            let mut plain = steps.clone();
-            plain[at] = plainer;
-            all.push(input_of_steps(&head, &plain, rest));
+    for at in 0..calls.len() {
+        if let Call::Pulses(channel, 2..) = calls[at] {
+            let mut fewer = calls.clone();
+            fewer[at] = Call::Pulses(channel, 1);
+            all.push(input_of(&head, &fewer, rest));
         }
     }
     all
 }
 
-/// The step with one pulse where it is of more, and in a timed log with the time 0 where it has another.
-fn plainer_steps(log: Log, step: Step) -> Vec<Step> {
-    let mut all = Vec::new();
-    if let Call::Pulses(channel, 2..) = step.call {
-        all.push(Step::new(step.elapsed, Call::Pulses(channel, 1)));
-    }
-    if log == Log::Timed && step.elapsed > 0 {
-        all.push(Step::new(0, step.call));
-    }
-    all
-}
-
-/// The logs of `replay` one step below a log.
+/// The logs of `replay` one step below a log: the traces below it that begin as it does.
 pub fn smaller_replays(log: &[u8]) -> Vec<Vec<u8>> {
-    smaller_logs(Log::Old, log)
-}
-
-/// The logs of `replay_timed` one step below a log.
-pub fn smaller_timed_replays(log: &[u8]) -> Vec<Vec<u8>> {
-    smaller_logs(Log::Timed, log)
-}
-
-/// The logs of a replay one step below a log: the traces below it that begin as it does.
-fn smaller_logs(log: Log, bytes: &[u8]) -> Vec<Vec<u8>> {
-    let head = head_of(log).bytes();
-    let traces = smaller_traces(&[&head, bytes].concat());
+    let head = replay_head().bytes();
+    let traces = smaller_traces(&[&head, log].concat());
     let logs = traces
         .iter()
         .filter_map(|input| input.strip_prefix(&head[..]));
@@ -92,12 +70,7 @@ fn plainer_heads(head: &Head) -> Vec<Head> {
     let fewer = match &head.switches {
         HeadSwitches::V260(switches) => fewer_switches(switches, HeadSwitches::V260),
         HeadSwitches::V560(switches) => fewer_switches(switches, HeadSwitches::V560),
-        HeadSwitches::V830(Log::Old, switches) => {
-            fewer_switches(switches, |fewer| HeadSwitches::V830(Log::Old, fewer))
-        }
-        HeadSwitches::V830(Log::Timed, switches) => {
-            fewer_switches(switches, |fewer| HeadSwitches::V830(Log::Timed, fewer))
-        }
+        HeadSwitches::V830(switches) => fewer_switches(switches, HeadSwitches::V830),
     };
     all.extend(fewer.into_iter().map(|switches| Head {
         switches,
@@ -137,8 +110,6 @@ fn lower_numbers<const N: usize>(numbers: &[u32; N]) -> Vec<[u32; N]> {
 mod tests {
     use super::*;
     use crate::compare::shrink::shrink_input;
-    use crate::listings::trace::entries_from;
-    use crate::listings::trace_head::input_of;
 
     #[test]
     fn a_long_failing_input_is_made_small() {
@@ -182,19 +153,5 @@ mod tests {
         };
         let smallest = shrink_input(&fails, &log, 300, smaller_replays);
         assert_eq!(smallest, [0, 3, 1, 7]);
-    }
-
-    #[test]
-    fn a_long_failing_timed_log_is_made_small() {
-        let pulses = Step::new(300, Call::Pulses(3, 70)).bytes(Log::Timed);
-        let mut log = pulses.repeat(100);
-        log.extend([0xAC, 2, 7, 7, 7, 8, 8]);
-        // It fails if MAN CLR comes 7 steps after anything.
-        let fails = |log: &[u8]| {
-            let (steps, _) = steps_from(&head_of(Log::Timed), log, 0);
-            steps.contains(&Step::new(7, Call::ManClr)) && steps.len() > 1
-        };
-        let smallest = shrink_input(&fails, &log, 300, smaller_timed_replays);
-        assert_eq!(smallest, [0, 7, 7, 7]);
     }
 }

@@ -12,13 +12,12 @@ use crate::compare::tally::v830::V830Tally;
 use crate::inputs::trace::fixed::fixed_traces;
 use crate::inputs::trace::long::long_traces;
 use crate::inputs::trace::random::make_traces;
-use crate::listings::trace::{own_trace, steps_from};
+use crate::listings::trace::{entries_from, own_trace};
 use crate::listings::trace_head::{read_head, HeadSwitches};
-use crate::model::log::number_at;
-use crate::model::timed_log::Log;
+use crate::model::module::Call;
 
 /// The number of random whole runs of each module unless another is asked for; of the V830 half as
-/// many again are made with an old log, and so many with a timed one.
+/// many again are made.
 pub const DEFAULT_RUNS: usize = 1_200;
 
 /// The faults of heads and of logs.
@@ -30,12 +29,8 @@ pub struct TraceTally {
     v260: ModuleTally,
     v560: ModuleTally,
     v830: V830Tally,
-    /// The V830 with a timed log.
-    v831: V830Tally,
     head_faults: Row<u32>,
     log_faults: Row<u32>,
-    /// Those of times.
-    time_faults: Row<u32>,
     logs: Row<&'static str>,
 }
 
@@ -46,11 +41,9 @@ impl Default for TraceTally {
             entries: 0,
             v260: ModuleTally::of_260(),
             v560: ModuleTally::of_560(),
-            v830: V830Tally::of_trace(Log::Old),
-            v831: V830Tally::of_trace(Log::Timed),
+            v830: V830Tally::default(),
             head_faults: Row::new("faults of heads", FAULTS),
             log_faults: Row::new("faults of logs", FAULTS),
-            time_faults: Row::new("faults of times", [30, 31, 32]),
             logs: Row::new("logs", ["empty", "60 entries or more", "with less"]),
         }
     }
@@ -66,25 +59,21 @@ impl Counted for TraceTally {
             Err(answer) => return self.head_faults.add(answer),
             Ok(head) => head,
         };
-        let (steps, fault) = steps_from(&head, input, place);
-        self.entries += steps.len();
-        let calls = steps.iter().map(|step| step.call);
+        let (entries, fault) = entries_from(input, place);
+        self.entries += entries.len();
+        let calls = entries.iter().map(Call::of);
         match head.switches {
             HeadSwitches::V260(_) => self.v260.add_run(&head, calls),
             HeadSwitches::V560(_) => self.v560.add_run(&head, calls),
-            HeadSwitches::V830(Log::Old, _) => self.v830.add_run(&head, &steps),
-            HeadSwitches::V830(Log::Timed, _) => self.v831.add_run(&head, &steps),
+            HeadSwitches::V830(_) => self.v830.add_run(&head, calls),
         }
-        self.logs.add(match steps.len() {
+        self.logs.add(match entries.len() {
             0 => "empty",
             1..=59 => "with less",
             _ => "60 entries or more",
         });
-        if let Some((answer, place)) = fault {
+        if let Some((answer, _)) = fault {
             self.log_faults.add(answer);
-            if head.log() == Log::Timed && number_at(input, place).is_err() {
-                self.time_faults.add(answer);
-            }
         }
     }
 
@@ -99,10 +88,8 @@ impl Counted for TraceTally {
             self.v260.shown(),
             self.v560.shown(),
             self.v830.shown(),
-            self.v831.shown(),
             self.head_faults.shown(),
             self.log_faults.shown(),
-            self.time_faults.shown(),
             self.logs.shown(),
         ])
     }

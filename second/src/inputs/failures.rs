@@ -9,17 +9,14 @@ use crate::inputs::logs::random::make_cases;
 use crate::inputs::makeblock::random::make_requests;
 use crate::inputs::replay::fixed::log_of;
 use crate::inputs::replay::random::make_replays;
-use crate::inputs::replay_timed::random::make_timed_replays;
 use crate::inputs::rng::Rng;
 use crate::inputs::trace::long::{EDGE, LONGEST};
 use crate::inputs::trace::random::make_traces;
-use crate::inputs::trace::scripts_v830::{set_up, MEMORY};
+use crate::inputs::trace::scripts_v830::set_up;
 use crate::listings::kind::Kind;
-use crate::listings::trace_head::{input_of, input_of_steps, v260, v560, v830, v830_of};
+use crate::listings::trace_head::{input_of, v260, v560, v830};
 use crate::model::block::Settings;
 use crate::model::module::Call::{self, *};
-use crate::model::module::Step;
-use crate::model::timed_log::Log;
 use crate::model::write_log::numbers_bytes;
 
 /// So many random inputs of a kind are cut.
@@ -99,7 +96,6 @@ fn short_inputs(kind: Kind) -> Vec<Vec<u8>> {
             faulty(&[0x85, 0, 2]),
             faulty(&[8, 2]),
         ],
-        Kind::ReplayTimed => short_timed_logs(),
         Kind::Blocks => short_captures(),
         Kind::Makeblock => {
             let mut numbers = [0; 39];
@@ -112,57 +108,17 @@ fn short_inputs(kind: Kind) -> Vec<Vec<u8>> {
                 numbers_bytes(&numbers[..5]),
             ]
         }
-        Kind::Trace => short_traces(),
+        Kind::Trace => vec![
+            input_of(&v260([0x30, 0xFFFF, 3, 5], [300; 16]), &every_kind(), &[]),
+            input_of(
+                &v560(0xFF, [u32::MAX; 16]),
+                &[Pulses(1, 2), Test],
+                &[5, 0, 17],
+            ),
+            input_of(&v830(1, 300, 200), &every_kind(), &[]),
+            input_of(&v830(32, 3, 0), &[Trigger, Test], &[8, 2]),
+        ],
     }
-}
-
-/// Heads and logs: of each module good ones, and ones with a fault; of a V830 with either log.
-fn short_traces() -> Vec<Vec<u8>> {
-    let timed = v830_of(Log::Timed, 1, 300, 200);
-    let fault_in_time = &[0x85, 0, 2];
-    vec![
-        input_of(&v260([0x30, 0xFFFF, 3, 5], [300; 16]), &every_kind(), &[]),
-        input_of(
-            &v560(0xFF, [u32::MAX; 16]),
-            &[Pulses(1, 2), Test],
-            &[5, 0, 17],
-        ),
-        input_of(&v830(1, 300, 200), &every_kind(), &[]),
-        input_of(&v830(32, 3, 0), &[Trigger, Test], &[8, 2]),
-        input_of_steps(&timed, &timed_kinds(), &[]),
-        input_of(&timed, &[Trigger, Test], fault_in_time),
-    ]
-}
-
-/// Good entries of every kind behind times of every length, some of which leave the module busy.
-fn timed_kinds() -> Vec<Step> {
-    let times = [0, 99, 1, 300, u32::MAX, 40, 1 << 21, 1 << 14, 100];
-    let steps = every_kind().into_iter().chain([Trigger, Trigger, MEMORY]);
-    steps
-        .zip(times.into_iter().cycle())
-        .map(|(call, time)| Step::new(time, call))
-        .collect()
-}
-
-/// Timed logs: good ones, and ones with a fault in an entry and in a time.
-fn short_timed_logs() -> Vec<Vec<u8>> {
-    let log = |steps: &[Step]| -> Vec<u8> {
-        let entries = steps.iter().map(|step| step.bytes(Log::Timed));
-        entries.collect::<Vec<_>>().concat()
-    };
-    let some = [
-        Step::new(u32::MAX, Pulses(31, 1 << 21)),
-        Step::new(300, Test),
-    ];
-    let faulty = |end: &[u8]| [log(&some), end.to_vec()].concat();
-    vec![
-        log(&timed_kinds()),
-        faulty(&[0x88, 1, 6, 0, 17, 2]),
-        faulty(&[5, 0x85, 0, 2]),
-        faulty(&[0xE4, 0, 2]),
-        faulty(&[0xFF, 0xFF, 0xFF, 0xFF, 0x10, 2]),
-        faulty(&[0x80, 1, 8, 2]),
-    ]
 }
 
 /// Captures: of document 01's event whole and wrong in its header and in a datum, and of events of no words.
@@ -217,7 +173,6 @@ fn random_inputs(kind: Kind, rng: &mut Rng) -> Vec<Input> {
         Kind::Makeblock => make_requests(seed, RANDOM),
         Kind::Trace => some(make_traces(seed, RANDOM), rng),
         Kind::Replay => some(make_replays(seed, RANDOM), rng),
-        Kind::ReplayTimed => some(make_timed_replays(seed, RANDOM), rng),
     }
 }
 
@@ -227,10 +182,6 @@ fn long_input(kind: Kind) -> Option<Vec<u8>> {
     match kind {
         Kind::Logs => Some(framed(&vec![Case::new(0, &log()[..1_000]); 66])),
         Kind::Entries | Kind::Replay => Some(log()),
-        Kind::ReplayTimed => {
-            let entry = Step::new(u32::MAX, LONGEST).bytes(Log::Timed);
-            Some(entry.repeat(EDGE / 15 + 20))
-        }
         Kind::Blocks => {
             let settings = Settings {
                 header: false,

@@ -5,10 +5,9 @@ use crate::listings::end::End;
 use crate::listings::logs::{list_cases, list_entries, OWN_READER};
 use crate::listings::makeblock::list_makeblock;
 use crate::listings::own_module::own_start;
-use crate::listings::replay::own_steps;
+use crate::listings::replay::{list_replay, replay_head};
 use crate::listings::trace::list_trace;
 use crate::model::block::{read_event, write_event};
-use crate::model::timed_log::Log;
 
 /// What a comparison or an answer is about.
 #[derive(Clone, Copy, Debug, PartialEq, Eq)]
@@ -19,18 +18,16 @@ pub enum Kind {
     Makeblock,
     Trace,
     Replay,
-    ReplayTimed,
 }
 
 /// Every kind, by its name.
-pub const KINDS: [(&str, Kind); 7] = [
+pub const KINDS: [(&str, Kind); 6] = [
     ("logs", Kind::Logs),
     ("entries", Kind::Entries),
     ("blocks", Kind::Blocks),
     ("makeblock", Kind::Makeblock),
     ("trace", Kind::Trace),
     ("replay", Kind::Replay),
-    ("replay_timed", Kind::ReplayTimed),
 ];
 
 impl Kind {
@@ -42,8 +39,7 @@ impl Kind {
             Kind::Blocks => list_blocks(bytes, end, &read_event),
             Kind::Makeblock => list_makeblock(bytes, end, &write_event),
             Kind::Trace => list_trace(bytes, end, &own_start),
-            Kind::Replay => own_steps(Log::Old, bytes, end),
-            Kind::ReplayTimed => own_steps(Log::Timed, bytes, end),
+            Kind::Replay => list_replay(bytes, end, own_start(&replay_head()).1),
         }
     }
 }

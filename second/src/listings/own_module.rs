@@ -1,7 +1,7 @@
 //! This program's own modules, as the head of a trace starts them.
 
 use crate::listings::trace_head::{Head, HeadSwitches};
-use crate::model::module::{Call, Given, Module, Step};
+use crate::model::module::{Call, Given, Module};
 use crate::model::scaler::Scaler;
 use crate::model::v260::{Switches, V260};
 use crate::model::v560::V560;
@@ -42,14 +42,6 @@ impl Module for Own {
         }
     }
 
-    /// Lets the step's time pass, if it is a V830, and does what its call asks for.
-    fn step(&mut self, step: Step) -> Given {
-        match self {
-            Own::Scaler(scaler) => scaler.step(step),
-            Own::V830(module) => module.step(step),
-        }
-    }
-
     /// The module's columns.
     fn columns(&self) -> Vec<u32> {
         self.module().columns()
@@ -79,7 +71,7 @@ pub fn own_start(head: &Head) -> (Given, Own) {
             with_counts(V260::start(switches, level), &head.counts)
         }
         HeadSwitches::V560([joined]) => with_counts(V560::start(joined), &head.counts),
-        HeadSwitches::V830(_, [geo, capacity]) => {
+        HeadSwitches::V830([geo, capacity]) => {
             let (given, mut module) = V830::start(geo, lent_words(capacity));
             module.record.counts.copy_from_slice(&head.counts);
             (given, Own::V830(Box::new(module)))

@@ -1,12 +1,10 @@
-//! The listings `replay` and `replay_timed` of docs/FORMATS.md: a night of a V830 (document 02, M-100 and M-101),
-//! made by a module.
+//! The listing `replay` of docs/FORMATS.md: a night of a V830 (document 02, M-100), made by a module.
 
 use crate::listings::end::{put_end, End};
 use crate::listings::own_module::own_start;
-use crate::listings::trace::steps_from;
-use crate::listings::trace_head::{v830_of, Head};
-use crate::model::module::Module;
-use crate::model::timed_log::Log;
+use crate::listings::trace::entries_from;
+use crate::listings::trace_head::{Head, HeadSwitches};
+use crate::model::module::{Call, Module};
 use std::fmt::Write;
 
 pub const REPLAY_TITLE: &str = "entry answer value\n";
@@ -14,22 +12,20 @@ pub const REPLAY_TITLE: &str = "entry answer value\n";
 /// The words of event memory that are lent to the module.
 pub const REPLAY_WORDS: u32 = 16_384;
 
-/// The fresh module of a replay of either log, as the head of a trace would describe it.
-pub fn head_of(log: Log) -> Head {
-    v830_of(log, 0, REPLAY_WORDS, 0)
-}
-
-/// The fresh module of a replay of an old log.
+/// The fresh module of a replay, as the head of a trace would describe it.
 pub fn replay_head() -> Head {
-    head_of(Log::Old)
+    Head {
+        switches: HeadSwitches::V830([0, REPLAY_WORDS]),
+        counts: vec![0; crate::model::block::CHANNELS],
+    }
 }
 
-/// The whole listing of a log of either kind that ended so, by this module.
-pub fn list_steps<M: Module>(log: Log, bytes: &[u8], end: End, mut module: M) -> String {
+/// The whole `replay` listing of a log that ended so, by this module.
+pub fn list_replay<M: Module>(log: &[u8], end: End, mut module: M) -> String {
     let mut listing = String::from(REPLAY_TITLE);
-    let (steps, fault) = steps_from(&head_of(log), bytes, 0);
-    for (number, step) in (1u64..).zip(&steps) {
-        let given = module.step(*step);
+    let (entries, fault) = entries_from(log, 0);
+    for (number, entry) in (1u64..).zip(&entries) {
+        let given = module.call(Call::of(entry));
         writeln!(listing, "{} {} {}", number, given.answer, given.value)
             .expect("a String takes every line");
     }
@@ -37,17 +33,7 @@ pub fn list_steps<M: Module>(log: Log, bytes: &[u8], end: End, mut module: M) ->
     listing
 }
 
-/// The whole listing of a log of either kind that ended so, by this program's own V830.
-pub fn own_steps(log: Log, bytes: &[u8], end: End) -> String {
-    list_steps(log, bytes, end, own_start(&head_of(log)).1)
-}
-
 /// The whole `replay` listing of this program's own V830.
 pub fn own_replay(log: &[u8]) -> String {
-    own_steps(Log::Old, log, End::Whole)
-}
-
-/// The whole `replay_timed` listing of this program's own V830.
-pub fn own_replay_timed(log: &[u8]) -> String {
-    own_steps(Log::Timed, log, End::Whole)
+    list_replay(log, End::Whole, own_start(&replay_head()).1)
 }

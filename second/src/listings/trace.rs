@@ -4,38 +4,22 @@ use crate::listings::end::{put_end, End};
 use crate::listings::head::{put_numbers, put_words};
 use crate::listings::own_module::own_start;
 use crate::listings::trace_head::{read_head, Head};
-use crate::model::log::Entry;
-use crate::model::module::{Given, Module, Step};
-use crate::model::timed_log::{Log, TimedEntry};
+use crate::model::log::{read_entry, Entry};
+use crate::model::module::{Call, Given, Module};
 
-/// A fault and its place.
-pub type Fault = (u32, usize);
-
-/// The good entries of this log from `place` on, and the fault that ends it, if any.
-pub fn timed_from(log: Log, input: &[u8], place: usize) -> (Vec<TimedEntry>, Option<Fault>) {
+/// The good entries of a log from `place` on, and the fault that ends it and its place, if any.
+pub fn entries_from(input: &[u8], place: usize) -> (Vec<Entry>, Option<(u32, usize)>) {
     let mut entries = Vec::new();
     let mut next = place;
     while next < input.len() {
-        let timed = log.read(input, next);
-        if timed.entry.answer != 0 {
-            return (entries, Some((timed.entry.answer, next)));
+        let entry = read_entry(input, next);
+        if entry.answer != 0 {
+            return (entries, Some((entry.answer, next)));
         }
-        next = timed.entry.place;
-        entries.push(timed);
+        next = entry.place;
+        entries.push(entry);
     }
     (entries, None)
-}
-
-/// The good entries of an old log from `place` on, and the fault that ends it, if any.
-pub fn entries_from(input: &[u8], place: usize) -> (Vec<Entry>, Option<Fault>) {
-    let (timed, fault) = timed_from(Log::Old, input, place);
-    (timed.iter().map(|timed| timed.entry).collect(), fault)
-}
-
-/// The steps of a log behind its head, and the fault that ends it, if any.
-pub fn steps_from(head: &Head, input: &[u8], place: usize) -> (Vec<Step>, Option<Fault>) {
-    let (timed, fault) = timed_from(head.log(), input, place);
-    (timed.iter().map(Step::of).collect(), fault)
 }
 
 /// Adds the line of one call to the listing.
@@ -62,9 +46,9 @@ pub fn list_trace<M: Module>(
     listing += head.title();
     let (given, mut module) = start(&head);
     put_call(&mut listing, 0, given, &module);
-    let (steps, fault) = steps_from(&head, input, place);
-    for (position, step) in steps.iter().enumerate() {
-        let given = module.step(*step);
+    let (entries, fault) = entries_from(input, place);
+    for (position, entry) in entries.iter().enumerate() {
+        let given = module.call(Call::of(entry));
         put_call(&mut listing, position + 1, given, &module);
     }
     let whole = put_end(&mut listing, fault, end);

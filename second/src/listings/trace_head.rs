@@ -2,8 +2,7 @@
 
 use crate::listings::head::head_numbers;
 use crate::model::log::number_at;
-use crate::model::module::{Call, Step};
-use crate::model::timed_log::Log;
+use crate::model::module::Call;
 use crate::model::write_log::numbers_bytes;
 use crate::model::{block, scaler};
 
@@ -18,9 +17,9 @@ sections latch \
 c0 c1 c2 c3 c4 c5 c6 c7 c8 c9 c10 c11 c12 c13 c14 c15 \
 l0 l1 l2 l3 l4 l5 l6 l7 l8 l9 l10 l11 l12 l13 l14 l15\n";
 
-/// Line 1 of a V830's trace, of either log.
+/// Line 1 of a V830's trace.
 pub const TITLE_830: &str = "entry answer value geo control enable triggers veto \
-capacity first stored steps \
+capacity first stored \
 c0 c1 c2 c3 c4 c5 c6 c7 c8 c9 c10 c11 c12 c13 c14 c15 \
 c16 c17 c18 c19 c20 c21 c22 c23 c24 c25 c26 c27 c28 c29 c30 c31\n";
 
@@ -51,8 +50,8 @@ pub enum HeadSwitches {
     V260([u32; 4]),
     /// joined
     V560([u32; 1]),
-    /// the log behind the head; geo, capacity
-    V830(Log, [u32; 2]),
+    /// geo, capacity
+    V830([u32; 2]),
 }
 
 impl Head {
@@ -61,8 +60,7 @@ impl Head {
         let (module, switches) = match &self.switches {
             HeadSwitches::V260(switches) => (260, &switches[..]),
             HeadSwitches::V560(switches) => (560, &switches[..]),
-            HeadSwitches::V830(Log::Old, switches) => (830, &switches[..]),
-            HeadSwitches::V830(Log::Timed, switches) => (831, &switches[..]),
+            HeadSwitches::V830(switches) => (830, &switches[..]),
         };
         [&[module], switches, &self.counts].concat()
     }
@@ -77,7 +75,7 @@ impl Head {
         match self.switches {
             HeadSwitches::V260(_) => TITLE_260,
             HeadSwitches::V560(_) => TITLE_560,
-            HeadSwitches::V830(..) => TITLE_830,
+            HeadSwitches::V830(_) => TITLE_830,
         }
     }
 
@@ -86,25 +84,7 @@ impl Head {
         match self.switches {
             HeadSwitches::V260(_) => &LIMITS_260,
             HeadSwitches::V560(_) => &LIMITS_560,
-            HeadSwitches::V830(..) => &LIMITS_830,
-        }
-    }
-
-    /// The same head of a V830 in front of a timed log.
-    pub fn timed(&self) -> Head {
-        let switches = match self.switches {
-            HeadSwitches::V830(_, switches) => HeadSwitches::V830(Log::Timed, switches),
-            other => other,
-        };
-        let counts = self.counts.clone();
-        Head { switches, counts }
-    }
-
-    /// The log that stands behind the head.
-    pub fn log(&self) -> Log {
-        match self.switches {
-            HeadSwitches::V830(log, _) => log,
-            _ => Log::Old,
+            HeadSwitches::V830(_) => &LIMITS_830,
         }
     }
 }
@@ -121,15 +101,14 @@ pub fn read_head(input: &[u8]) -> Result<(Head, usize), u32> {
             let (switches, place) = head_numbers(input, place, &LARGEST_SWITCHES_560)?;
             (HeadSwitches::V560(switches), place)
         }
-        830 | 831 => {
-            let log = if module == 830 { Log::Old } else { Log::Timed };
+        830 => {
             let (switches, place) = head_numbers(input, place, &LARGEST_SWITCHES_830)?;
-            (HeadSwitches::V830(log, switches), place)
+            (HeadSwitches::V830(switches), place)
         }
         _ => return Err(OTHER_MODULE),
     };
     let (counts, place) = match switches {
-        HeadSwitches::V830(..) => counts_at::<{ block::CHANNELS }>(input, place)?,
+        HeadSwitches::V830(_) => counts_at::<{ block::CHANNELS }>(input, place)?,
         _ => counts_at::<{ scaler::CHANNELS }>(input, place)?,
     };
     Ok((Head { switches, counts }, place))
@@ -141,18 +120,10 @@ fn counts_at<const N: usize>(input: &[u8], place: usize) -> Result<(Vec<u32>, us
     Ok((counts.to_vec(), place))
 }
 
-/// The input of a head, calls and the bytes behind them; in a timed log the calls are as far apart as in the old one.
+/// The input of a head, calls and the bytes behind them.
 pub fn input_of(head: &Head, calls: &[Call], rest: &[u8]) -> Vec<u8> {
-    let steps: Vec<Step> = calls.iter().copied().map(Step::old).collect();
-    input_of_steps(head, &steps, rest)
-}
-
-/// The input of a head, steps and the bytes behind them.
-pub fn input_of_steps(head: &Head, steps: &[Step], rest: &[u8]) -> Vec<u8> {
     let mut bytes = head.bytes();
-    for step in steps {
-        bytes.extend(step.bytes(head.log()));
-    }
+    calls.iter().for_each(|call| bytes.extend(call.bytes()));
     bytes.extend(rest);
     bytes
 }
@@ -173,15 +144,10 @@ pub fn v560(joined: u32, counts: [u32; scaler::CHANNELS]) -> Head {
     }
 }
 
-/// The head of a V830 with this GEO and capacity, counts that are all alike, and an old log.
+/// The head of a V830 with this GEO and capacity, and counts that are all alike.
 pub fn v830(geo: u32, capacity: u32, count: u32) -> Head {
-    v830_of(Log::Old, geo, capacity, count)
-}
-
-/// The head of a V830 likewise, with this log.
-pub fn v830_of(log: Log, geo: u32, capacity: u32, count: u32) -> Head {
     Head {
-        switches: HeadSwitches::V830(log, [geo, capacity]),
+        switches: HeadSwitches::V830([geo, capacity]),
         counts: vec![count; block::CHANNELS],
     }
 }
@@ -201,23 +167,21 @@ mod tests {
         assert_eq!(names[8..12], ["vme", "sections", "latch", "c0"]);
         assert_eq!(names[42], "l15");
         let names: Vec<&str> = TITLE_830.trim_end().split(' ').collect();
-        assert_eq!(names.len(), 12 + 32);
+        assert_eq!(names.len(), 11 + 32);
         assert_eq!(names[2..5], ["value", "geo", "control"]);
-        assert_eq!(names[10..13], ["stored", "steps", "c0"]);
-        assert_eq!(names[43], "c31");
+        assert_eq!(names[10..12], ["stored", "c0"]);
+        assert_eq!(names[42], "c31");
     }
 
     #[test]
     fn a_head_reads_as_it_is_written() {
-        for (log, first) in [(Log::Old, 0xBE), (Log::Timed, 0xBF)] {
-            let head = Head {
-                switches: HeadSwitches::V830(log, [u32::MAX, 40_000]),
-                counts: (0..32).map(|channel| channel << 27 | channel).collect(),
-            };
-            let bytes = head.bytes();
-            assert_eq!(bytes[..2], [first, 6]);
-            assert_eq!(read_head(&bytes), Ok((head, bytes.len())));
-            assert_eq!(read_head(&bytes[..bytes.len() - 1]), Err(30));
-        }
+        let head = Head {
+            switches: HeadSwitches::V830([u32::MAX, 40_000]),
+            counts: (0..32).map(|channel| channel << 27 | channel).collect(),
+        };
+        let bytes = head.bytes();
+        assert_eq!(bytes[..2], [0xBE, 6]);
+        assert_eq!(read_head(&bytes), Ok((head, bytes.len())));
+        assert_eq!(read_head(&bytes[..bytes.len() - 1]), Err(30));
     }
 }

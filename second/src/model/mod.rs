@@ -5,7 +5,6 @@ pub mod log;
 pub mod module;
 pub mod registers;
 pub mod scaler;
-pub mod timed_log;
 pub mod v260;
 pub mod v560;
 pub mod v830;

@@ -1,8 +1,7 @@
 //! What a trace asks of a module, whichever module it is.
 
 use crate::model::log::Entry;
-use crate::model::timed_log::{Log, TimedEntry, OLD_STEPS};
-use crate::model::write_log::{entry_bytes, shortest};
+use crate::model::write_log::entry_bytes;
 
 /// One call of a module, as one entry of a log asks for it.
 #[derive(Clone, Copy, Debug, PartialEq, Eq)]
@@ -52,38 +51,6 @@ impl Call {
     }
 }
 
-/// A call and its time: the steps of 10 ns since the call before.
-#[derive(Clone, Copy, Debug, PartialEq, Eq)]
-pub struct Step {
-    pub elapsed: u32,
-    pub call: Call,
-}
-
-impl Step {
-    /// A call so many steps after the one before.
-    pub fn new(elapsed: u32, call: Call) -> Step {
-        Step { elapsed, call }
-    }
-
-    /// A call of the old log, or of document 01's cases.
-    pub fn old(call: Call) -> Step {
-        Step::new(OLD_STEPS, call)
-    }
-
-    /// The step that a good entry of either log asks for.
-    pub fn of(timed: &TimedEntry) -> Step {
-        Step::new(timed.elapsed, Call::of(&timed.entry))
-    }
-
-    /// The bytes of the entry of this log that asks for this step.
-    pub fn bytes(&self, log: Log) -> Vec<u8> {
-        match log {
-            Log::Old => self.call.bytes(),
-            Log::Timed => [shortest(self.elapsed), self.call.bytes()].concat(),
-        }
-    }
-}
-
 /// What a call gives besides the new state.
 #[derive(Clone, Copy, Debug, PartialEq, Eq)]
 pub struct Given {
@@ -102,12 +69,8 @@ impl Given {
 
 /// A module that a trace shows: this program's own, or a wrong one in a test.
 pub trait Module {
-    /// Does what the call asks for; of a module that holds time, as one of the old log.
+    /// Does what the call asks for.
     fn call(&mut self, call: Call) -> Given;
-    /// Lets the step's time pass, in a module that holds time, and does what its call asks for.
-    fn step(&mut self, step: Step) -> Given {
-        self.call(step.call)
-    }
     /// The numbers of a line of the trace behind the answer and the value.
     fn columns(&self) -> Vec<u32>;
     /// Every word lent to the module as it now is, if it is one that is lent words.
@@ -137,19 +100,5 @@ mod tests {
             assert_eq!(call.bytes(), bytes);
             assert_eq!(Call::of(&read_entry(bytes, 0)), call);
         }
-    }
-
-    #[test]
-    fn steps_are_written_and_read_as_document_02_says() {
-        let step = Step::new(300, Call::Pulses(31, 1));
-        assert_eq!(step.bytes(Log::Timed), [0xAC, 0x02, 0, 31, 1]);
-        assert_eq!(Step::of(&Log::Timed.read(&[0xAC, 0x02, 0, 31, 1], 0)), step);
-        assert_eq!(step.bytes(Log::Old), [0, 31, 1]);
-        let old = Step::new(100, Call::Trigger);
-        assert_eq!(
-            (Step::old(Call::Trigger), old.bytes(Log::Timed)),
-            (old, vec![100, 4])
-        );
-        assert_eq!(Step::of(&Log::Old.read(&[4], 0)), old);
     }
 }

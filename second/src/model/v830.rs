@@ -1,9 +1,9 @@
-//! The V830: 32 channels of 32 bits and an event memory, from 002, document 01 and document 02, M-101.
+//! The V830: 32 channels of 32 bits and an event memory, from 002 and document 01.
 
 use crate::model::block::{
     write_event, Event, Settings, CHANNELS, LARGEST_GEO, LARGEST_SHORT_COUNT, NO_WORDS_IN_EVENT,
 };
-use crate::model::module::{Call, Given, Module, Step};
+use crate::model::module::{Call, Given, Module};
 use crate::model::registers::{find, long_row, word_row, Directions::*, Register, Row, Table};
 use crate::model::scaler::{MALFORMED, NO_CHANNEL, NO_MEANING};
 
@@ -53,10 +53,6 @@ pub const WORDS_STORED: u32 = 6;
 pub const NOT_RANDOM: u32 = 7;
 pub const TOO_FEW_FREE: u32 = 9;
 pub const LENT_OTHERWISE: u32 = 10;
-pub const BUSY: u32 = 13;
-
-/// A trigger fewer steps of 10 ns than these after an accepted one is neglected; the steps held stop here.
-pub const BUSY_STEPS: u32 = 100;
 
 /// The most words of event memory.
 pub const MOST_WORDS: usize = 32_768;
@@ -90,8 +86,6 @@ pub struct Record {
     /// The place of the oldest stored word.
     pub first: usize,
     pub stored: usize,
-    /// The steps since the last accepted trigger, 100 for all that are more.
-    pub steps: u32,
     pub counts: [u32; CHANNELS],
 }
 
@@ -114,7 +108,6 @@ impl Record {
             capacity,
             first: 0,
             stored: 0,
-            steps: BUSY_STEPS,
             counts: [0; CHANNELS],
         }
     }
@@ -141,12 +134,6 @@ impl Record {
             || self.stored > self.capacity
             || self.stored > 0 && self.settings().length() == 0
             || self.mode() == NO_MODE
-            || self.steps > BUSY_STEPS
-    }
-
-    /// Lets time pass.
-    fn pass(&mut self, elapsed: u32) {
-        self.steps = self.steps.saturating_add(elapsed).min(BUSY_STEPS);
     }
 
     /// Empties the memory; no word is written.
@@ -178,7 +165,6 @@ impl Record {
         self.control = result & CONTROL_BITS;
         self.counts = [0; CHANNELS];
         self.triggers = 0;
-        self.steps = BUSY_STEPS;
         self.empty();
         Ok(())
     }
@@ -251,19 +237,14 @@ impl V830 {
         (Given::new(outcome), V830 { record, memory })
     }
 
-    /// Lets the step's time pass and does what its call asks for, or gives the number of the refusal. A refused
-    /// call changes nothing but by its time, and with 12 and 10 not even that passes.
-    fn attempt(&mut self, step: Step) -> Result<u32, u32> {
+    /// Does what the call asks for, or gives the number of the refusal and changes nothing.
+    fn attempt(&mut self, call: Call) -> Result<u32, u32> {
         if self.record.malformed() {
             return Err(MALFORMED);
         }
-        if let Call::Trigger | Call::Read(..) | Call::Write(..) = step.call {
-            self.lent_as_started()?;
-        }
-        self.record.pass(step.elapsed);
-        match step.call {
+        match call {
             Call::Pulses(channel, how_many) => return self.give_pulses(channel, how_many),
-            Call::Trigger => return self.trigger(BY_LINE),
+            Call::Trigger => return self.lent_as_started().and_then(|_| self.trigger(BY_LINE)),
             Call::Read(offset, width) => return self.access(offset, width, None),
             Call::Write(offset, width, data) => return self.access(offset, width, Some(data)),
             Call::ManClr => return Err(NO_MEANING),
@@ -299,8 +280,9 @@ impl V830 {
         }
     }
 
-    /// One access of a module lent its words, a write with its data.
+    /// One access, a write with its data.
     fn access(&mut self, offset: u32, width: u32, data: Option<u32>) -> Result<u32, u32> {
+        self.lent_as_started()?;
         let register = find(&TABLE_830, offset, width, data.is_some())?;
         let control = self.record.control;
         match (register, data) {
@@ -340,14 +322,10 @@ impl V830 {
         if length == 0 {
             return Err(NO_WORDS_IN_EVENT);
         }
-        if record.steps < BUSY_STEPS {
-            return Err(BUSY);
-        }
         if record.capacity - record.stored < length {
             return Err(TOO_FEW_FREE);
         }
         record.triggers = record.triggers.wrapping_add(1);
-        record.steps = 0;
         let mut words = vec![0; length];
         write_event(&settings, &record.event(source), &mut words);
         for word in words {
@@ -363,17 +341,12 @@ impl V830 {
 }
 
 impl Module for V830 {
-    /// Does what the call asks for, 100 steps after the one before.
+    /// Does what the call asks for.
     fn call(&mut self, call: Call) -> Given {
-        self.step(Step::old(call))
+        Given::new(self.attempt(call))
     }
 
-    /// Lets the step's time pass and does what its call asks for.
-    fn step(&mut self, step: Step) -> Given {
-        Given::new(self.attempt(step))
-    }
-
-    /// GEO, the registers, VETO, the store, the steps and the counts.
+    /// GEO, the registers, VETO, the store and the counts.
     fn columns(&self) -> Vec<u32> {
         let record = &self.record;
         let mut columns = vec![
@@ -385,7 +358,6 @@ impl Module for V830 {
             record.capacity as u32,
             record.first as u32,
             record.stored as u32,
-            record.steps,
         ];
         columns.extend(record.counts);
         columns

@@ -17,22 +17,20 @@ const FAILED: &str = "failed read 11\n";
 type Wrong = fn(Kind, &[u8]) -> String;
 
 /// Every kind, and those that list more than one thing.
-const ALL: [Kind; 7] = [
+const ALL: [Kind; 6] = [
     Kind::Logs,
     Kind::Entries,
     Kind::Blocks,
     Kind::Makeblock,
     Kind::Trace,
     Kind::Replay,
-    Kind::ReplayTimed,
 ];
-const OF_MANY: [Kind; 6] = [
+const OF_MANY: [Kind; 5] = [
     Kind::Logs,
     Kind::Entries,
     Kind::Blocks,
     Kind::Trace,
     Kind::Replay,
-    Kind::ReplayTimed,
 ];
 
 /// The listing as it would be if the bytes were all.
@@ -88,7 +86,7 @@ const WRONG: [(&str, &[Kind], Wrong); 13] = [
     }),
     (
         "no title before a failure at once",
-        &[Kind::Logs, Kind::Entries, Kind::Replay, Kind::ReplayTimed],
+        &[Kind::Logs, Kind::Entries, Kind::Replay],
         |kind, bytes| match bytes.is_empty() {
             true => FAILED.to_string(),
             false => own_cut(kind, bytes),

@@ -33,7 +33,7 @@ impl Wrong {
         let (wide, [joined, interrupts, jumpers, level]) = match head.switches {
             HeadSwitches::V260(switches) => (false, switches),
             HeadSwitches::V560([joined]) => (true, [joined, 0, 0, 0]),
-            HeadSwitches::V830(..) => unreachable!("a V830 has wrong modules of its own"),
+            HeadSwitches::V830(_) => unreachable!("a V830 has wrong modules of its own"),
         };
         let most = if slip == StartTakesLevel8 { 8 } else { 7 };
         let refused = level > most && slip != StartNeverRefuses;

@@ -8,12 +8,11 @@ use crate::inputs::replay::random::make_replays;
 use crate::inputs::rng::DEFAULT_SEED;
 use crate::listings::end::End;
 use crate::listings::own_module::{own_start, Own};
-use crate::listings::replay::{list_steps, own_replay, replay_head, REPLAY_TITLE};
+use crate::listings::replay::{list_replay, own_replay, replay_head, REPLAY_TITLE};
 use crate::listings::trace::entries_from;
 use crate::listings::trace_head::v830;
 use crate::model::log::Entry;
 use crate::model::module::{Call, Given, Module};
-use crate::model::timed_log::Log;
 use crate::wrong::caught::caught;
 use crate::wrong::v830::Wrong830;
 use crate::wrong::v830_slips::{
@@ -29,7 +28,7 @@ pub type WrongListing = fn(&[u8]) -> String;
 
 /// The listing of this program's own V830 started with another GEO or memory.
 fn started(log: &[u8], geo: u32, words: u32) -> String {
-    list_steps(Log::Old, log, End::Whole, own_start(&v830(geo, words, 0)).1)
+    list_replay(log, End::Whole, own_start(&v830(geo, words, 0)).1)
 }
 
 /// The listing with each line behind the title changed, by its number.
@@ -175,7 +174,7 @@ const WRONG_MEMORIES: [(&str, WrongListing); 4] = [
 ];
 
 /// Slips of a V830 that no replay shows.
-pub const NOT_SHOWN: [Slip830; 27] = [
+const NOT_SHOWN: [Slip830; 27] = [
     // Of another start than the replay's, and of a GEO other than 0.
     RefusedStartAnswers0,
     RefusedStartKeepsGeo,
@@ -226,13 +225,11 @@ fn every_slip_of_a_v830_that_a_replay_shows_is_caught() {
     let inputs = [fixed_replays(), random, long_replays(DEFAULT_SEED)].concat();
     let is_caught = |slip: Slip830| {
         let start = || Wrong830::start(slip, &replay_head()).1;
-        let program = |log: &[u8]| list_steps(Log::Old, log, End::Whole, start()).into_bytes();
+        let program = |log: &[u8]| list_replay(log, End::Whole, start()).into_bytes();
         caught(&program, &inputs, &own_replay)
     };
     assert!(!is_caught(Nothing));
-    // Of the slips of time those that show where all entries are 100 steps apart.
-    let of_time = [BusyUntil101, WritesTakeNoTime, VetoStopsTime, OldLog99];
-    let mut slips = [SLIPS_830, &of_time].concat();
+    let mut slips = SLIPS_830.to_vec();
     slips.retain(|slip| !NOT_SHOWN.contains(slip) && !is_caught(*slip));
     assert!(slips.is_empty(), "{:#?}", slips);
 }

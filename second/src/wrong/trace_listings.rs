@@ -6,7 +6,7 @@ use crate::inputs::trace::fixed::fixed_traces;
 use crate::inputs::trace::long::long_traces;
 use crate::inputs::trace::random::make_traces;
 use crate::listings::head::head_numbers;
-use crate::listings::trace::{own_trace, steps_from, timed_from};
+use crate::listings::trace::{entries_from, own_trace};
 use crate::listings::trace_head::{read_head, TITLE_260};
 use crate::model::log::number_at;
 use crate::wrong::caught::caught;
@@ -14,19 +14,21 @@ use crate::wrong::caught::caught;
 /// A listing that is wrong otherwise than by its module.
 type WrongListing = fn(&[u8]) -> String;
 
+/// The place after a good head, else that after the input.
+fn log_place(input: &[u8]) -> usize {
+    read_head(input).map_or(input.len(), |(_, place)| place)
+}
+
 /// The listing with the place of its fault changed.
 fn with_place(input: &[u8], change: fn(usize, usize) -> usize) -> String {
     let right = own_trace(input);
-    let (head, log) = match read_head(input) {
-        Ok(head) => head,
-        Err(_) => return right,
-    };
-    match steps_from(&head, input, log).1 {
-        Some((answer, place)) => right.replace(
+    let log = log_place(input);
+    match entries_from(input, log).1 {
+        Some((answer, place)) if log < input.len() => right.replace(
             &format!("\nfault {} {}\n", answer, place),
             &format!("\nfault {} {}\n", answer, change(place, log)),
         ),
-        None => right,
+        _ => right,
     }
 }
 
@@ -43,7 +45,7 @@ fn fault_without_ranges(input: &[u8]) -> Option<u32> {
     let module = number_at(input, 0).map(|(module, _)| module);
     match module {
         Ok(260) => head_numbers(input, 0, &[u32::MAX; 21]).err(),
-        Ok(830 | 831) => head_numbers(input, 0, &[u32::MAX; 35]).err(),
+        Ok(830) => head_numbers(input, 0, &[u32::MAX; 35]).err(),
         _ => head_numbers(input, 0, &[u32::MAX; 18]).err(),
     }
 }
@@ -199,15 +201,13 @@ const WRONG_AT_EDGE: [(&str, WrongListing); 4] = [
         own_trace(&input[..input.len().min(65_536)])
     }),
     ("an entry across the edge is lost", |input| {
-        let entries = match read_head(input) {
-            Ok((head, place)) => timed_from(head.log(), input, place).0,
-            Err(_) => Vec::new(),
-        };
-        let mut ends = entries.iter().map(|timed| timed.entry.place);
-        let before = ends.clone().filter(|end| *end <= 65_536).last();
-        match (before, ends.find(|end| *end > 65_536)) {
-            (Some(last), Some(across)) if last < 65_536 => {
-                own_trace(&[&input[..last], &input[across..]].concat())
+        let place = log_place(input);
+        let (entries, _) = entries_from(input, place);
+        let mut before = entries.iter().filter(|entry| entry.place <= 65_536);
+        let behind = entries.iter().find(|entry| entry.place > 65_536);
+        match (before.next_back(), behind) {
+            (Some(last), Some(across)) if last.place < 65_536 => {
+                own_trace(&[&input[..last.place], &input[across.place..]].concat())
             }
             _ => own_trace(input),
         }

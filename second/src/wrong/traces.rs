@@ -33,7 +33,7 @@ fn inputs_of(module: Of, inputs: &[Input]) -> Vec<Input> {
         Ok((head, _)) => match head.switches {
             HeadSwitches::V260(_) => module == V260,
             HeadSwitches::V560(_) => module == V560,
-            HeadSwitches::V830(..) => false,
+            HeadSwitches::V830(_) => false,
         },
     };
     inputs.iter().filter(wanted).cloned().collect()

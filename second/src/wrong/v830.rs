@@ -1,14 +1,12 @@
 //! A V830 made once more, which can be wrong on purpose: start, counting, lines, Control, store.
 
 use crate::listings::trace_head::{Head, HeadSwitches};
-use crate::model::module::{Call, Given, Module, Step};
-use crate::model::timed_log::Log;
+use crate::model::module::{Call, Given, Module};
 use crate::wrong::v830_slips::Slip830::{self, *};
 
 /// A V830 that is wrong in one way.
 pub struct Wrong830 {
     pub slip: Slip830,
-    pub log: Log,
     pub geo: u32,
     pub control: u32,
     pub enable: u32,
@@ -17,7 +15,6 @@ pub struct Wrong830 {
     pub capacity: u32,
     pub first: u32,
     pub stored: u32,
-    pub steps: u32,
     pub counts: [u32; 32],
     /// The counts at the last accepted trigger.
     pub latched: [u32; 32],
@@ -28,7 +25,7 @@ impl Wrong830 {
     /// The module of a head, and what its start gives.
     pub fn start(slip: Slip830, head: &Head) -> (Given, Wrong830) {
         let (mut geo, capacity) = match head.switches {
-            HeadSwitches::V830(_, [geo, capacity]) => (geo, capacity),
+            HeadSwitches::V830([geo, capacity]) => (geo, capacity),
             _ => unreachable!("the other modules have wrong ones of their own"),
         };
         if slip == StartCutsGeo {
@@ -51,9 +48,8 @@ impl Wrong830 {
         if slip == StartZeroesMemory {
             memory.fill(0);
         }
-        let mut module = Wrong830 {
+        let module = Wrong830 {
             slip,
-            log: head.log(),
             geo: if good || slip == RefusedStartKeepsGeo {
                 geo
             } else {
@@ -70,12 +66,10 @@ impl Wrong830 {
             },
             first: 0,
             stored: 0,
-            steps: 0,
             counts: head.counts[..].try_into().expect("32 counts"),
             latched: [0; 32],
             memory,
         };
-        module.steps = module.first_steps();
         let told = refusal.filter(|_| slip != RefusedStartAnswers0);
         (
             Given::new(told.map_or(Ok(0), |(answer, _)| Err(*answer))),
@@ -153,7 +147,6 @@ impl Wrong830 {
 
     /// CLEAR.
     pub fn clear(&mut self, by_line: bool) {
-        self.set_by_clear(by_line);
         if self.slip == VetoStopsClear && self.veto {
             return;
         }
@@ -207,9 +200,6 @@ impl Wrong830 {
         };
         self.geo = if is(ResetClearsGeo) { 0 } else { self.geo };
         self.veto &= self.slip != ResetLiftsVeto;
-        if self.slip != ResetKeepsSteps {
-            self.steps = self.all_steps();
-        }
         if !keeps_words {
             let first = self.first;
             self.empty();
@@ -244,7 +234,6 @@ impl Wrong830 {
             match self.slip {
                 RefusedControlClears => self.empty(),
                 RefusedControlResets => self.counts = [0; 32],
-                RefusedControlSets100 => self.steps = self.all_steps(),
                 _ => {}
             }
             return Err(4);
@@ -254,7 +243,6 @@ impl Wrong830 {
         } else {
             result
         };
-        self.set_by_control(offset);
         let same = self.slip == SameControlKeeps && old == result;
         if same || self.slip == SetKeepsEverything && offset == 0x110A {
             return Ok(0);
@@ -296,7 +284,6 @@ impl Wrong830 {
         match self.slip {
             EnableEmpties => self.empty(),
             EnableZeroesCounters => self.counts = [0; 32],
-            EnableSets100 => self.steps = 100,
             _ => {}
         }
         Ok(0)
@@ -344,14 +331,9 @@ impl Wrong830 {
 }
 
 impl Module for Wrong830 {
-    /// Does what a call asks for, as one of an old log.
+    /// Does what a call asks for.
     fn call(&mut self, call: Call) -> Given {
-        self.step(Step::old(call))
-    }
-
-    /// Lets the step's time pass and does what its call asks for.
-    fn step(&mut self, step: Step) -> Given {
-        let mut given = self.timed(step, |module| Given::new(module.attempt(step.call)));
+        let mut given = Given::new(self.attempt(call));
         if self.slip == RefusedValue && given.answer == 5 {
             given.value = 0xFFFF_FFFF;
         }
@@ -362,7 +344,7 @@ impl Module for Wrong830 {
     fn columns(&self) -> Vec<u32> {
         let veto = if self.veto { 1 } else { 0 };
         let mut columns = vec![self.geo, self.control, self.enable, self.triggers, veto];
-        columns.extend([self.capacity, self.first, self.stored, self.steps_shown()]);
+        columns.extend([self.capacity, self.first, self.stored]);
         columns.extend(self.counts);
         columns
     }

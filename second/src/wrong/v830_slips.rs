@@ -1,21 +1,17 @@
 //! What a V830 can get wrong, each by itself.
 
-/// Declares the slips, and the lists of them, from two lists of names: those of time last.
+/// Declares the slips, and the list of them, from one list of names.
 macro_rules! slips {
-    ($($slip:ident,)*; $($of_time:ident,)*) => {
+    ($($slip:ident,)*) => {
         /// The one thing that a wrong V830 does wrong.
         #[derive(Clone, Copy, Debug, PartialEq)]
         pub enum Slip830 {
             Nothing,
             $($slip,)*
-            $($of_time,)*
         }
 
-        /// Every slip but `Nothing` and those of time.
+        /// Every slip but `Nothing`.
         pub const SLIPS_830: &[Slip830] = &[$(Slip830::$slip,)*];
-
-        /// Every slip of time.
-        pub const TIME_SLIPS: &[Slip830] = &[$(Slip830::$of_time,)*];
     };
 }
 
@@ -178,56 +174,6 @@ slips! {
     ManClrBefore12,
     SevenBefore12,
     RefusedValue,
-    ;
-    // When the module is busy.
-    BusyUntil99,
-    BusyUntil101,
-    NeverBusy,
-    LineNeverBusy,
-    RegisterNeverBusy,
-    BusyBefore8,
-    BusyAfter9,
-    BusyIs9,
-    BusyCounts,
-    BusyResets,
-    // What sets the steps.
-    NeglectedRestarts,
-    WrongModeRestarts,
-    NoWordsRestarts,
-    FullRestarts,
-    RefusedControlSets100,
-    ControlKeepsSteps,
-    SetKeepsSteps,
-    ClearBitsKeepsSteps,
-    ResetKeepsSteps,
-    LineClearSets100,
-    RegisterClearSets100,
-    ClearSets0,
-    ClearEmptyingSets100,
-    EnableSets100,
-    StartsBusy,
-    // How time passes.
-    ActsBeforeTime,
-    RefusedKeepsTime,
-    NeglectedKeepsTime,
-    RefusedAccessKeepsTime,
-    RefusedControlKeepsTime,
-    TimeWraps,
-    StepsWrapAt8Bits,
-    TimeOf8Bits,
-    TimeOf16Bits,
-    TimeOf28Bits,
-    StepsNotStopped,
-    StepsStopAt99,
-    LastTimeOnly,
-    PulsesTakeNoTime,
-    LinesTakeNoTime,
-    TestTakesNoTime,
-    ReadsTakeNoTime,
-    WritesTakeNoTime,
-    ManClrTakesNoTime,
-    VetoStopsTime,
-    OldLog99,
 }
 
 use Slip830::*;

@@ -163,7 +163,7 @@ impl Wrong830 {
     }
 
     /// The number of the refusal of a trigger, if it is refused.
-    fn neglected(&self, source: u32) -> Option<u32> {
+    fn neglected(&self) -> Option<u32> {
         let length = self.length();
         let nothing = length == 0 || self.slip == HeaderAloneIs8 && self.enable == 0;
         let end = self.first % self.capacity + self.stored + length;
@@ -180,14 +180,11 @@ impl Wrong830 {
         let mut checks = [
             (7, !self.random() || veto),
             (8, nothing && self.slip != EightIsGood),
-            (13, self.is_busy(source)),
             (9, full),
         ];
         match self.slip {
             EightBeforeSeven => checks.swap(0, 1),
-            NineBeforeSeven => checks.swap(0, 3),
-            BusyBefore8 => checks.swap(1, 2),
-            BusyAfter9 => checks.swap(2, 3),
+            NineBeforeSeven => checks.swap(0, 2),
             _ => {}
         }
         let first = checks.iter().find(|(_, fails)| *fails);
@@ -196,7 +193,7 @@ impl Wrong830 {
 
     /// A trigger of this source.
     pub fn trigger(&mut self, source: u32) -> Result<u32, u32> {
-        if let Some(answer) = self.neglected(source) {
+        if let Some(answer) = self.neglected() {
             let auto = self.control & 0x80 != 0;
             match self.slip {
                 NeglectedResets if answer == 9 && auto => self.counts = [0; 32],
@@ -204,9 +201,8 @@ impl Wrong830 {
                 DisabledTriggerCounts if answer == 7 => self.triggers += 1,
                 _ => {}
             }
-            return Err(self.neglect(answer));
+            return Err(answer);
         }
-        self.steps = 0;
         let number = self.triggers;
         self.triggers = self.triggers.wrapping_add(1);
         if self.slip == ResetBeforeTaking && self.control & 0x80 != 0 {

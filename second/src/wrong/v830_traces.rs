@@ -1,21 +1,19 @@
 //! Tests of `compare trace` itself: V830s that are wrong on purpose must be caught, by the listings
-//! of the fixed inputs and of a share of the random ones, and some by the ledger alone, all of time too.
+//! of the fixed inputs and of a share of the random ones, and some by the ledger alone.
 
 use crate::compare::ledger::books::audit_listing;
 use crate::compare::trace::compare_trace;
 use crate::inputs::input::Input;
 use crate::inputs::rng::DEFAULT_SEED;
-use crate::inputs::trace::fixed_timed::fixed_timed_traces;
 use crate::inputs::trace::fixed_v830::fixed_v830_traces;
 use crate::inputs::trace::long::long_traces;
 use crate::inputs::trace::random::make_traces;
 use crate::listings::end::End;
 use crate::listings::trace::{list_trace, own_trace};
 use crate::listings::trace_head::{read_head, HeadSwitches};
-use crate::model::timed_log::Log;
 use crate::wrong::caught::caught;
 use crate::wrong::v830::Wrong830;
-use crate::wrong::v830_slips::{caught_by, By, Slip830, Slip830::*, SLIPS_830, TIME_SLIPS};
+use crate::wrong::v830_slips::{caught_by, By, Slip830, Slip830::*, SLIPS_830};
 
 /// So many runs asked for, and half as many again of the V830, must catch every slip.
 const SHARE: usize = 600;
@@ -28,57 +26,39 @@ pub fn listing_830(slip: Slip830, input: &[u8]) -> Vec<u8> {
 /// Whether an input has a good head of a V830.
 pub fn is_v830(input: &[u8]) -> bool {
     match read_head(input) {
-        Ok((head, _)) => matches!(head.switches, HeadSwitches::V830(..)),
+        Ok((head, _)) => matches!(head.switches, HeadSwitches::V830(_)),
         Err(_) => false,
     }
 }
 
-/// The inputs of a V830 with a good head and this log behind it.
-fn of_v830(log: Log, mut inputs: Vec<Input>) -> Vec<Input> {
-    let has_log = |input: &[u8]| read_head(input).map_or(false, |(head, _)| head.log() == log);
-    inputs.retain(|input| is_v830(&input.bytes) && has_log(&input.bytes));
+/// The inputs of a V830 with a good head.
+fn of_v830(mut inputs: Vec<Input>) -> Vec<Input> {
+    inputs.retain(|input| is_v830(&input.bytes));
     inputs
 }
 
-/// The fixed, the random and the long inputs with this log.
-fn all_inputs(log: Log) -> [(&'static str, Vec<Input>); 3] {
-    let fixed = match log {
-        Log::Old => fixed_v830_traces(),
-        Log::Timed => fixed_timed_traces(),
-    };
+/// The fixed, the random and the long inputs.
+fn all_inputs() -> [(&'static str, Vec<Input>); 3] {
     [
-        ("fixed", of_v830(log, fixed)),
-        ("random", of_v830(log, make_traces(DEFAULT_SEED, SHARE))),
-        ("long", of_v830(log, long_traces(DEFAULT_SEED))),
+        ("fixed", of_v830(fixed_v830_traces())),
+        ("random", of_v830(make_traces(DEFAULT_SEED, SHARE))),
+        ("long", of_v830(long_traces(DEFAULT_SEED))),
     ]
-}
-
-/// The slips that inputs with this log must catch: those of time are for timed logs, but for the one of old logs.
-fn slips_of(log: Log) -> Vec<Slip830> {
-    let of_time = TIME_SLIPS.iter().filter(|slip| **slip != OldLog99);
-    match log {
-        Log::Old => [SLIPS_830, &[OldLog99]].concat(),
-        Log::Timed => of_time.copied().collect(),
-    }
 }
 
 #[test]
 fn a_right_v830_agrees() {
-    for (name, inputs) in [Log::Old, Log::Timed].into_iter().flat_map(all_inputs) {
+    for (name, inputs) in all_inputs() {
         let program = |input: &[u8]| listing_830(Nothing, input);
-        assert!(
-            !inputs.is_empty() && !caught(&program, &inputs, &own_trace),
-            "{}",
-            name
-        );
+        assert!(!caught(&program, &inputs, &own_trace), "{}", name);
     }
 }
 
-/// The slips that are missed by the inputs with this log that must catch them.
-fn missed_by(log: Log) -> Vec<String> {
-    let [fixed, random, long] = all_inputs(log);
+#[test]
+fn every_slip_is_caught() {
+    let [fixed, random, long] = all_inputs();
     let mut missed = Vec::new();
-    for slip in slips_of(log) {
+    for &slip in SLIPS_830 {
         let wanted = match caught_by(slip) {
             By::Both => vec![&fixed, &random],
             By::Fixed => vec![&fixed],
@@ -91,17 +71,7 @@ fn missed_by(log: Log) -> Vec<String> {
             }
         }
     }
-    missed
-}
-
-#[test]
-fn every_slip_is_caught() {
-    assert_eq!(missed_by(Log::Old), [""; 0]);
-}
-
-#[test]
-fn every_slip_of_time_is_caught() {
-    assert_eq!(missed_by(Log::Timed), [""; 0]);
+    assert!(missed.is_empty(), "{:#?}", missed);
 }
 
 /// Slips that make words or pulses come out wrong, which the ledger finds without another listing.
@@ -146,9 +116,9 @@ const LEDGER_SLIPS: [Slip830; 38] = [
     EmptyReadIsGood,
 ];
 
-/// The slips of these that the ledger alone does not find in the inputs with this log; it complains of no right V830.
-fn missed_by_ledger(log: Log, slips: &[Slip830]) -> Vec<Slip830> {
-    let [fixed, random, _] = all_inputs(log);
+#[test]
+fn the_ledger_alone_finds_what_does_not_balance() {
+    let [fixed, random, _] = all_inputs();
     let inputs = [fixed.1, random.1].concat();
     let complains = |slip: Slip830| {
         let mut audits = inputs
@@ -157,19 +127,11 @@ fn missed_by_ledger(log: Log, slips: &[Slip830]) -> Vec<Slip830> {
         audits.find_map(Result::err)
     };
     assert_eq!(complains(Nothing), None);
-    let missed = slips.iter().filter(|slip| complains(**slip).is_none());
-    missed.copied().collect()
-}
-
-#[test]
-fn the_ledger_alone_finds_what_does_not_balance() {
-    assert_eq!(missed_by_ledger(Log::Old, &LEDGER_SLIPS), []);
-}
-
-#[test]
-fn the_ledger_alone_finds_what_is_wrong_in_time() {
-    let slips = slips_of(Log::Timed);
-    assert_eq!(missed_by_ledger(Log::Timed, &slips), []);
+    let missed: Vec<_> = LEDGER_SLIPS
+        .into_iter()
+        .filter(|slip| complains(*slip).is_none())
+        .collect();
+    assert!(missed.is_empty(), "{:#?}", missed);
 }
 
 #[test]

@@ -3,7 +3,7 @@ use mathlib.Core.Path.{◌≡◌, refl}
 use Prim.Native.Nat.{◌-◌, ◌≤◌}
 use native.Mathlib.Omega.{arith}
 use lib.ListN.{length, take, drop}
-use Rattle.stdio.proofs.Moving.{one_more_lem}
+use Rattle.stdio.proofs.Moving.{one_more}
 use Rattle.head.proofs.CountedUp.{all}
 use Rattle.makeblock.proofs.Copied.{length_counts, count_at}
 use borrow.Author.Rules.{rules}
@@ -44,7 +44,7 @@ loop-again : tie.Need-loop-preserved invariant-loop decreases-loop
 loop-again c =
     let l = c.before.loop in
     let vs = c.before.before.before.args.head.values in
-    (search rules, l.invariant.1, search rules, one_more_lem (take 32 (drop 7 vs)) l.counts l.k _ (omega arith) (omega (arith, length_counts vs l.invariant.1)) (count_at vs l.invariant.1 l.k (omega arith)) l.invariant.3)
+    (search rules, l.invariant.1, search rules, one_more (take 32 (drop 7 vs)) l.counts l.k _ (omega arith) (omega (arith, length_counts vs l.invariant.1)) (count_at vs l.invariant.1 l.k (omega arith)) l.invariant.3)
 
 array-read-t16 : tie.Need-array-read-t16 invariant-loop decreases-loop
 array-read-t16 c = search rules

@@ -4,7 +4,7 @@ use Prim.Native.Nat.{◌-◌, ◌≤◌}
 use native.Mathlib.Omega.{arith}
 use lib.ListN.{length, take}
 use Rattle.head.specs.Heads.{up_from}
-use Rattle.stdio.proofs.Moving.{one_more_lem}
+use Rattle.stdio.proofs.Moving.{one_more}
 use Rattle.head.proofs.CountedUp.{all, length_up, up_at}
 use borrow.Author.Rules.{rules}
 use Rattle.makeblock.proofs.first_words.Statement.{statement}
@@ -40,7 +40,7 @@ loop-less c = search rules
 loop-again : tie.Need-loop-preserved invariant-loop decreases-loop
 loop-again c =
     let l = c.before.loop in
-    (search rules, search rules, one_more_lem (up_from 64 1) l.words l.i _ (omega arith) (omega (arith, length_up 64 1)) (omega (arith, up_at 64 1 l.i (omega arith))) l.invariant.2)
+    (search rules, search rules, one_more (up_from 64 1) l.words l.i _ (omega arith) (omega (arith, length_up 64 1)) (omega (arith, up_at 64 1 l.i (omega arith))) l.invariant.2)
 
 returns : tie.Need-returns invariant-loop decreases-loop
 returns c =

@@ -30,7 +30,7 @@ returns c =
     let m = lent a.memory.now in
     let g = k.before.before.gate in
     let x = k.before.numbered.result.number in
-    let e = refuses a.which a.out.now a.last a.log.now a.night m g.result x g.ensures (ap (λ (r : Reply). r.number) k.before.numbered.ensures) (λ z. omega (arith, z, c.before.if1.true)) in
+    let e = refuses a.out.now a.last a.log.now a.night m g.result x g.ensures (ap (λ (r : Reply). r.number) k.before.numbered.ensures) (λ z. omega (arith, z, c.before.if1.true)) in
     let p = nothing_put 0 0 a.night (Refused g.result) m a.out.now (omega arith) in
     (c.here.ensures ∙ p.0 ∙ ap part_of e, ap (λ (r : Run). r.memory.words) e, p.1 ∙ ap (λ (r : Run). put a.out.now 0 (text r.lines)) e)
 
@@ -42,7 +42,7 @@ run-requires c κs =
     let g = k.before.before.gate in
     let x = k.before.numbered.result.number in
     gate_sound a.night m
-    (lets_pass a.which a.out.now a.last a.log.now a.night m g.result x g.ensures (ap (λ (r : Reply). r.number) k.before.numbered.ensures) (omega (arith, c.before.before.if1.false)))
+    (lets_pass a.out.now a.last a.log.now a.night m g.result x g.ensures (ap (λ (r : Reply). r.number) k.before.numbered.ensures) (omega (arith, c.before.before.if1.false)))
 
 same-length-2 : tie.Need-same-length-2
 same-length-2 c = search rules
@@ -58,7 +58,7 @@ returns-2 c =
     let m = lent a.memory.now in
     let g = k.before.before.gate in
     let x = k.before.numbered.result.number in
-    let e = passes a.which a.out.now a.last a.log.now a.night m g.result x g.ensures (ap (λ (r : Reply). r.number) k.before.numbered.ensures) (omega (arith, u.before.before.before.if1.false)) in
+    let e = passes a.out.now a.last a.log.now a.night m g.result x g.ensures (ap (λ (r : Reply). r.number) k.before.numbered.ensures) (omega (arith, u.before.before.before.if1.false)) in
     (u.run.ensures.0 ∙ ap part_of e, u.run.ensures.1 ∙ ap (λ (r : Run). r.memory.words) e, u.run.ensures.2 ∙ ap (λ (r : Run). put a.out.now 0 (text r.lines)) e)
 
 pub replay-spec : {M : Type 1} → statement M

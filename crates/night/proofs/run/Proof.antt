@@ -2,9 +2,7 @@
 -- nothing.
 use Rattle.std.proofs.Common.{◌≡◌, ℕ, List, length, drop, sym, refl, ap, ◌∙◌, arith, length-drop, rules}
 use borrow.Author.Rules.{part_to_end}
-use Rattle.benchlog.specs.declared.InTime.{InTime}
-use Rattle.benchlog.specs.Timed.{with_time, timed_at}
-use Rattle.benchlog.proofs.Together.{in_time_is}
+use Rattle.benchlog.specs.Entries.{entry_at}
 use Rattle.meb.specs.Ring.{lent}
 use Rattle.night.specs.declared.Taken.{Taken}
 use Rattle.night.specs.Runs.{run_of}
@@ -16,39 +14,37 @@ use Rattle.night.proofs.run.Statement.{statement}
 use Rattle.night.proofs.run.Tie as tie
 
 abbrev invariant-loop : tie.invariant-loop
-invariant-loop which memory₀ log last out₀ now₀ used₀ at₀ left₀ number₀ memory out (λ x. x.now) used at left number =
+invariant-loop memory₀ log last out₀ now₀ used₀ at₀ left₀ number₀ memory out (λ x. x.now) used at left number =
     (length memory ≡ length memory₀) × Sound (λ x. x.now) (lent memory)
-    × Going which (run_of which left₀ last log now₀ (lent memory₀)) out₀ log last left used at (λ x. x.now) (lent memory) out × (number ≡ tally_of (λ x. x.now).entries)
+    × Going (run_of left₀ last log now₀ (lent memory₀)) out₀ log last left used at (λ x. x.now) (lent memory) out × (number ≡ tally_of (λ x. x.now).entries)
 
 abbrev decreases-loop : tie.decreases-loop
-decreases-loop which memory₀ log last out₀ now₀ used₀ at₀ left₀ number₀ memory out now used at left number = left
+decreases-loop memory₀ log last out₀ now₀ used₀ at₀ left₀ number₀ memory out now used at left number = left
 
 -- what is read is the entry at the front of the rest
-rest_read : (c : tie.After-read-in-time invariant-loop decreases-loop) → timed_at c.before.before.before.before.before.before.before.before.args.which (drop c.before.before.before.loop.used c.before.before.before.before.before.before.before.before.args.log.now) 0 ≡ with_time c.read-in-time.result.time c.read-in-time.result.reading
-rest_read c =
-    ap (λ (b : List ℕ). timed_at c.before.before.before.before.before.before.before.before.args.which b 0) (sym (part_to_end c.before.before.before.before.before.before.before.before.args.log.now c.before.before.before.loop.used))
-    ∙ in_time_is _ _ _ ∙ ap (λ (x : InTime). with_time x.time x.reading) (sym c.read-in-time.ensures)
+rest_read : (c : tie.After-read-entry invariant-loop decreases-loop) → entry_at (drop c.before.before.before.loop.used c.before.before.before.before.before.before.before.before.args.log.now) 0 ≡ c.read-entry.result
+rest_read c = ap (λ (b : List ℕ). entry_at b 0) (sym (part_to_end c.before.before.before.before.before.before.before.before.args.log.now c.before.before.before.loop.used)) ∙ sym c.read-entry.ensures
 
 counted-to-requires : tie.Need-counted-to-requires invariant-loop decreases-loop
 counted-to-requires c κs = search rules
 
 loop-holds : tie.Need-loop-init invariant-loop decreases-loop
-loop-holds c = (refl, c.before.before.before.before.requires, start _ _ _ _ _ _ _ (omega arith), c.counted-to.ensures)
+loop-holds c = (refl, c.before.before.before.before.requires, start _ _ _ _ _ _ (omega arith), c.counted-to.ensures)
 
-sub-read-in-time : tie.Need-overflow-sub-read-in-time invariant-loop decreases-loop
-sub-read-in-time c = search rules
+sub-read-entry : tie.Need-overflow-sub-read-entry invariant-loop decreases-loop
+sub-read-entry c = search rules
 
-part-read-in-time-start : tie.Need-slice-bounds-read-in-time-start invariant-loop decreases-loop
-part-read-in-time-start c = search rules
+part-read-entry-start : tie.Need-slice-bounds-read-entry-start invariant-loop decreases-loop
+part-read-entry-start c = search rules
 
-part-read-in-time-end : tie.Need-slice-bounds-read-in-time-end invariant-loop decreases-loop
-part-read-in-time-end c = search rules
+part-read-entry-end : tie.Need-slice-bounds-read-entry-end invariant-loop decreases-loop
+part-read-entry-end c = search rules
 
-read-in-time-requires : tie.Need-read-in-time-requires invariant-loop decreases-loop
-read-in-time-requires c κs = search rules
+read-entry-requires : tie.Need-read-entry-requires invariant-loop decreases-loop
+read-entry-requires c κs = search rules
 
-enum-known-reading : tie.Need-enum-known-reading invariant-loop decreases-loop
-enum-known-reading c = search rules
+enum-known-fault : tie.Need-enum-known-fault invariant-loop decreases-loop
+enum-known-fault c = search rules
 
 sub-stop : tie.Need-overflow-sub-stop invariant-loop decreases-loop
 sub-stop c = search rules
@@ -72,14 +68,14 @@ returns : tie.Need-returns invariant-loop decreases-loop
 returns c =
     let i = c.before.before.before.before.before.before.before.before.before.before.before in
     let log = i.before.before.before.before.before.args.log.now in
-    let r = rest_read c.before.before.before.before.before.before.before.before ∙ ap (with_time _) c.before.before.before.before.before.before.reading.given.1 in
+    let r = rest_read c.before.before.before.before.before.before.before.before ∙ c.before.before.before.before.before.before.fault.given.1 in
     let g = i.loop.invariant.2 in
     let h = c.before.before.before.before.before.before.before.before.before.before.loop-test.true in
     let s = rw (part_to_end log i.loop.used) at c.before.before.stop.ensures in
     (s.0 ∙ stops_part _ h g _ _ r, ap words (stops_lent _ h g _ _ r), s.1 ∙ stops_puts _ h g _ _ r)
 
-enum-known-reading-2 : tie.Need-enum-known-reading-2 invariant-loop decreases-loop
-enum-known-reading-2 c = search rules
+enum-known-entry : tie.Need-enum-known-entry invariant-loop decreases-loop
+enum-known-entry c = search rules
 
 take-requires : tie.Need-take-requires invariant-loop decreases-loop
 take-requires c κs = search rules
@@ -94,8 +90,8 @@ add-used : tie.Need-overflow-add-used invariant-loop decreases-loop
 add-used c =
     let i = c.before.before.before.before.before.before.before.before.before.before.before.before.before.before.before.before in
     let log = i.before.before.before.before.before.args.log.now in
-    let r = rest_read c.before.before.before.before.before.before.before.before.before.before.before.before.before ∙ ap (with_time _) c.before.before.before.before.before.before.before.before.before.before.before.reading2.given.1 in
-    omega (arith, within _ (drop i.loop.used log) _ _ _ r, length-drop i.loop.used log, i.loop.invariant.2.in_log)
+    let r = rest_read c.before.before.before.before.before.before.before.before.before.before.before.before.before ∙ c.before.before.before.before.before.before.before.before.before.before.before.entry.given.1 in
+    omega (arith, within (drop i.loop.used log) _ _ r, length-drop i.loop.used log, i.loop.invariant.2.in_log)
 
 sub-left : tie.Need-overflow-sub-left invariant-loop decreases-loop
 sub-left c = c.before.before.before.before.before.before.before.before.before.before.before.before.before.before.before.loop-test.true
@@ -106,13 +102,13 @@ loop-less c = omega (arith, c.before.before.before.before.before.before.before.b
 loop-again : tie.Need-loop-preserved invariant-loop decreases-loop
 loop-again c =
     let i = c.before.before.before.before.before.before.before.before.before.before.before.before.before.before.before.before in
-    let r = rest_read c.before.before.before.before.before.before.before.before.before.before.before.before.before ∙ ap (with_time _) c.before.before.before.before.before.before.before.before.before.before.before.reading2.given.1 in
+    let r = rest_read c.before.before.before.before.before.before.before.before.before.before.before.before.before ∙ c.before.before.before.before.before.before.before.before.before.before.before.entry.given.1 in
     let t = c.before.before.before.before.before.before.before.before.take in
     let u = c.before.before.before.before.counted-up in
     let p = c.before.before.put-entry in
     let n = counted_on i.loop.number u.result i.loop.now.entries t.result i.loop.invariant.3 u.ensures (ap (λ (k : Taken). k.night.entries) t.ensures.0) (ap (λ (k : Taken). k.entry) t.ensures.0) in
     let q = rw n.1 at p.ensures in
-    (t.auto.1.0 ∙ i.loop.invariant.0, taken_sound i.loop.now (lent i.loop.memory) _ _ _ t.result _ _ r i.loop.invariant.1 t.ensures.0 t.ensures.1, again i.loop.left _ _ _ t.result _ p.result _ c.before.before.before.before.before.before.before.before.before.before.before.before.before.before.before.loop-test.true i.loop.invariant.2 r t.ensures.0 (ap lent t.ensures.1) q.0 q.1, n.0)
+    (t.auto.1.0 ∙ i.loop.invariant.0, taken_sound i.loop.now (lent i.loop.memory) _ _ t.result _ _ r i.loop.invariant.1 t.ensures.0 t.ensures.1, again i.loop.left _ _ t.result _ p.result _ c.before.before.before.before.before.before.before.before.before.before.before.before.before.before.before.loop-test.true i.loop.invariant.2 r t.ensures.0 (ap lent t.ensures.1) q.0 q.1, n.0)
 
 here-requires : tie.Need-here-requires invariant-loop decreases-loop
 here-requires c κs = search rules
@@ -138,11 +134,11 @@ run_spec =
     decreases-loop
     counted-to-requires
     loop-holds
-    sub-read-in-time
-    part-read-in-time-start
-    part-read-in-time-end
-    read-in-time-requires
-    enum-known-reading
+    sub-read-entry
+    part-read-entry-start
+    part-read-entry-end
+    read-entry-requires
+    enum-known-fault
     sub-stop
     part-stop-start
     part-stop-end
@@ -150,7 +146,7 @@ run_spec =
     same_length
     same-length-2
     returns
-    enum-known-reading-2
+    enum-known-entry
     take-requires
     counted-up-requires
     put-entry-requires

@@ -1,12 +1,14 @@
--- The buffers and the memory keep their lengths. Assumes nothing.
-use mathlib.Core.Path.{◌≡◌}
+-- The places stay within the buffers. Assumes nothing.
+use Prim.Native.Nat.{◌≤◌}
+use mathlib.Core.Path.{◌≡◌, refl}
 use lib.ListN.{length}
+use Rattle.stdio.proofs.Keeping.{written_same}
 use borrow.Author.Rules.{rules}
 use Rattle.replay.proofs.run.Statement.{statement}
 use Rattle.replay.proofs.run.Tie as tie
 
 abbrev invariant-loop : tie.invariant-loop
-invariant-loop buf₀ out₀ memory₀ at course₀ turns₀ buf out memory course turns = (length buf ≡ length buf₀) × (length out ≡ length out₀) × (length memory ≡ length memory₀)
+invariant-loop buf₀ out₀ memory₀ at course₀ turns₀ buf out memory course turns = (course.listing.used ≤ course.listing.have) × (course.listing.have ≤ length buf₀) × (length buf ≡ length buf₀) × (length out ≡ length out₀) × (length memory ≡ length memory₀)
 
 abbrev decreases-loop : tie.decreases-loop
 decreases-loop buf₀ out₀ memory₀ at course₀ turns₀ buf out memory course turns = turns
@@ -24,7 +26,12 @@ begin-requires-2 : tie.Need-begin-requires-2 invariant-loop decreases-loop
 begin-requires-2 c κs = search rules
 
 loop-holds : tie.Need-loop-init invariant-loop decreases-loop
-loop-holds c = search rules
+loop-holds c =
+    let f = c.before.before in
+    let b = f.before.begin in
+    let r = f.flush.result in
+    let same = written_same b.result r r.amiss f.flush.ensures in
+    (rw (same.0, same.1, b.ensures) (search rules), rw (same.1, b.ensures) (search rules), search rules, search rules, search rules)
 
 turn-requires : tie.Need-turn-requires invariant-loop decreases-loop
 turn-requires c κs = search rules

@@ -2,7 +2,7 @@
 use Rattle.std.proofs.Common.{◌≡◌, ◌-◌, ◌≤◌, length, take, refl, arith, rules}
 use Rattle.head.specs.Heads.{up_from}
 use Rattle.head.proofs.CountedUp.{all, length_up, up_at}
-use Rattle.stdio.proofs.Moving.{one_more_lem}
+use Rattle.stdio.proofs.Moving.{one_more}
 use Rattle.trace.proofs.count_up.Statement.{statement}
 use Rattle.trace.proofs.count_up.Tie as tie
 
@@ -37,7 +37,7 @@ loop-again : tie.Need-loop-preserved invariant-loop decreases-loop
 loop-again c =
     let l = c.before.loop in
     let n = length c.before.before.args.memory.now in
-    (search rules, search rules, l.invariant.2, one_more_lem (up_from n 1) l.memory l.k _ (omega arith) (omega (arith, length_up n 1)) (omega (arith, up_at n 1 l.k (omega arith))) l.invariant.3)
+    (search rules, search rules, l.invariant.2, one_more (up_from n 1) l.memory l.k _ (omega arith) (omega (arith, length_up n 1)) (omega (arith, up_at n 1 l.k (omega arith))) l.invariant.3)
 
 same_length : tie.Need-same-length invariant-loop decreases-loop
 same_length c = search rules

@@ -1,5 +1,5 @@
 -- The tests are the definition's. Assumes nothing.
-use Rattle.std.proofs.Common.{⊎_elim, rules, eq-eqb, ne_eqb}
+use Rattle.std.proofs.Common.{rules, eq-eqb, ne_eqb}
 use Rattle.trace.proofs.head_in.Statement.{statement}
 use Rattle.trace.proofs.head_in.Tie as tie
 
@@ -52,9 +52,6 @@ returns-3 c =
 element-copy-out-if4 : tie.Need-element-copy-out-if4
 element-copy-out-if4 c = search rules
 
-element-copy-out-if5 : tie.Need-element-copy-out-if5
-element-copy-out-if5 c = search rules
-
 limits-830-requires : tie.Need-limits-830-requires
 limits-830-requires c κs = search rules
 
@@ -70,10 +67,7 @@ returns-4 c =
     let g = l.before.before.before in
     let f = g.before.before in
     let e = f.before.before in
-    ⊎_elim
-    (λ w. rw (← e.before.read_head.ensures, eq-eqb _ _ e.if1.false, ne_eqb _ _ f.if2.false, ne_eqb _ _ g.if3.false, eq-eqb _ _ w.taken, c.read-head4.ensures, l.limits-830.ensures))
-    (λ w. rw (← e.before.read_head.ensures, eq-eqb _ _ e.if1.false, ne_eqb _ _ f.if2.false, ne_eqb _ _ g.if3.false, ne_eqb _ _ w.0.left, w.2.taken, c.read-head4.ensures, l.limits-830.ensures))
-    l.before.if4.branch
+    rw (← e.before.read_head.ensures, eq-eqb _ _ e.if1.false, ne_eqb _ _ f.if2.false, ne_eqb _ _ g.if3.false, eq-eqb _ _ l.before.if4.true, c.read-head4.ensures, l.limits-830.ensures)
 
 fault-number-requires : tie.Need-fault-number-requires
 fault-number-requires c κs = search rules
@@ -81,11 +75,10 @@ fault-number-requires c κs = search rules
 returns-5 : tie.Need-returns-5
 returns-5 c =
     let t = c.before in
-    let h = t.before.before in
-    let g = h.before.before in
+    let g = t.before.before in
     let f = g.before.before in
     let e = f.before.before in
-    rw (← e.before.read_head.ensures, eq-eqb _ _ e.if1.false, ne_eqb _ _ f.if2.false, ne_eqb _ _ g.if3.false, ne_eqb _ _ h.if4.false, t.if5.false, c.fault-number.ensures)
+    rw (← e.before.read_head.ensures, eq-eqb _ _ e.if1.false, ne_eqb _ _ f.if2.false, ne_eqb _ _ g.if3.false, ne_eqb _ _ t.if4.false, c.fault-number.ensures)
 
 pub head-in-spec : {M : Type 1} → statement M
 head-in-spec =
@@ -105,7 +98,6 @@ head-in-spec =
     read-head-requires-3
     returns-3
     element-copy-out-if4
-    element-copy-out-if5
     limits-830-requires
     slice-aggregate-read-head-4
     read-head-requires-4

@@ -25,12 +25,6 @@ put-names-requires c κs = search rules
 put-held-requires : tie.Need-put-held-requires invariant-loop decreases-loop
 put-held-requires c κs = search rules
 
-array-read-log-of : tie.Need-array-read-log-of invariant-loop decreases-loop
-array-read-log-of c = search rules
-
-log-of-requires : tie.Need-log-of-requires invariant-loop decreases-loop
-log-of-requires c κs = search rules
-
 loop-holds : tie.Need-loop-init invariant-loop decreases-loop
 loop-holds c = search rules
 
@@ -72,8 +66,6 @@ list-entries-spec =
     begin-requires
     put-names-requires
     put-held-requires
-    array-read-log-of
-    log-of-requires
     loop-holds
     turn-requires
     sub-turns

@@ -16,19 +16,19 @@ roomy : (c : tie.After-make-room) → c.make-room.result.have ≤ length c.befor
 roomy c =
     let s = c.before.before.before.before.before.before in
     let r = c.make-room.result in
-    rw (roomy_same s.args.before.listing r r.amiss (length s.args.out.now) 924 c.make-room.ensures).1 s.requires
+    rw (roomy_same s.args.before.listing r r.amiss (length s.args.out.now) 903 c.make-room.ensures).1 s.requires
 
-slice-reshare-prefix-read-timed : tie.Need-slice-reshare-prefix-read-timed
-slice-reshare-prefix-read-timed c = roomy c.before
+slice-reshare-prefix-read-entry : tie.Need-slice-reshare-prefix-read-entry
+slice-reshare-prefix-read-entry c = roomy c.before
 
-slice-aggregate-read-timed : tie.Need-slice-aggregate-read-timed
-slice-aggregate-read-timed c = let m = c.before.before in sym (length-take-le m.make-room.result.have m.before.before.before.before.before.before.args.buf.now (roomy m))
+slice-aggregate-read-entry : tie.Need-slice-aggregate-read-entry
+slice-aggregate-read-entry c = let m = c.before.before in sym (length-take-le m.make-room.result.have m.before.before.before.before.before.before.args.buf.now (roomy m))
 
-read-timed-requires : tie.Need-read-timed-requires
-read-timed-requires c κs = search rules
+read-entry-requires : tie.Need-read-entry-requires
+read-entry-requires c κs = search rules
 
-enum-known-time : tie.Need-enum-known-time
-enum-known-time c = search rules
+enum-known-entry : tie.Need-enum-known-entry
+enum-known-entry c = search rules
 
 shown-requires : tie.Need-shown-requires
 shown-requires c κs = search rules
@@ -85,7 +85,7 @@ returns-2 : tie.Need-returns-2
 returns-2 c =
     let m = c.before.before.before.before.before.before.before.before.before.before.before.before.before in
     let same = ap (λ (k : Course). k.listing.have) c.before.before.before.before.before.before.before.before.before.before.before.before.moved.ensures in
-    omega (arith, c.before.before.before.before.shown.ensures.0, same, roomy m)
+    omega (arith, c.before.before.before.before.shown.ensures, same, roomy m)
 
 same-length-6 : tie.Need-same-length-6
 same-length-6 c = search rules
@@ -105,10 +105,10 @@ turn_spec =
     (tie.spec
     make-room-requires
     moved-requires
-    slice-reshare-prefix-read-timed
-    slice-aggregate-read-timed
-    read-timed-requires
-    enum-known-time
+    slice-reshare-prefix-read-entry
+    slice-aggregate-read-entry
+    read-entry-requires
+    enum-known-entry
     shown-requires
     enum-known-fault
     fault-number-requires

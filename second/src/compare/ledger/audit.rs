@@ -17,14 +17,12 @@
 //! (b) for each channel that was enabled throughout, its counts in those events and its live count
 //!     make up the pulses admitted to it, modulo 2^32, in short format modulo 2^26.
 //!
-//! And of each run: (c) a trigger that was not answered 0 was answered 7, 8, 9, 10, 12 or 13, for the
-//! reason that the number names, and changed nothing that is printed but for the steps; (d) the steps
-//! printed are those since the last accepted trigger by the times of the log, 100 at most, or 100 if
-//! a Control-group write or a reset was answered 0 since, and no trigger was accepted at fewer.
+//! And of each run: (c) a trigger that was not answered 0 was answered 7, 8, 9, 10 or 12, for the
+//! reason that the number names, and changed nothing that is printed.
 
 use crate::compare::ledger::printed::{Line, Printed};
 use crate::model::block::{read_event, Settings, CHANNELS};
-use crate::model::module::{Call, Step};
+use crate::model::module::Call;
 
 /// What was checked of some runs.
 #[derive(Clone, Copy, Debug, Default, PartialEq, Eq)]
@@ -36,8 +34,6 @@ pub struct Checked {
     pub balances: usize,
     /// The triggers that were answered other than 0.
     pub neglected: usize,
-    /// Those of them that were answered 13.
-    pub busy: usize,
     /// The events of a trigger number of 65,536 or more, and the short counts of 2^26 or more.
     pub past_16_bits: usize,
     pub past_26_bits: usize,
@@ -63,15 +59,13 @@ struct Ledger {
     control: u32,
     enable: u32,
     veto: bool,
-    /// The steps since the last accepted trigger, 100 at most.
-    steps: u32,
     stretch: Option<Stretch>,
     checked: Checked,
 }
 
 /// Goes through a run of a V830 with this GEO; what was checked, or the first complaint.
-pub fn audit(geo: u32, steps: &[Step], printed: &Printed) -> Result<Checked, String> {
-    if printed.lines.len() != steps.len() + 1 {
+pub fn audit(geo: u32, calls: &[Call], printed: &Printed) -> Result<Checked, String> {
+    if printed.lines.len() != calls.len() + 1 {
         return Err(format!("{} lines are printed", printed.lines.len()));
     }
     let mut ledger = Ledger {
@@ -79,17 +73,15 @@ pub fn audit(geo: u32, steps: &[Step], printed: &Printed) -> Result<Checked, Str
         control: 0,
         enable: u32::MAX,
         veto: false,
-        steps: 100,
         stretch: None,
         checked: Checked::default(),
     };
-    for (entry, step) in steps.iter().enumerate() {
+    for (entry, call) in calls.iter().enumerate() {
         let (before, after) = (&printed.lines[entry], &printed.lines[entry + 1]);
-        ledger.pass(step.elapsed, after.answer());
-        let outcome = ledger.enter(step.call, before, after);
+        let outcome = ledger.enter(*call, before, after);
         outcome.map_err(|words| format!("at entry {}: {}", entry + 1, words))?;
     }
-    let last = &printed.lines[steps.len()];
+    let last = &printed.lines[calls.len()];
     let stored = printed.stored_words()?;
     ledger.close(last, Some(&stored))?;
     Ok(ledger.checked)
@@ -104,14 +96,6 @@ fn ask(so: bool, words: impl FnOnce() -> String) -> Result<(), String> {
 }
 
 impl Ledger {
-    /// Lets time pass before a call of this answer; 10 and 12 keep all as it was.
-    fn pass(&mut self, elapsed: u32, answer: u32) {
-        if answer != 10 && answer != 12 {
-            let sum = u64::from(self.steps) + u64::from(elapsed);
-            self.steps = sum.min(100) as u32;
-        }
-    }
-
     /// Enters one call, with the lines printed before and behind it.
     fn enter(&mut self, call: Call, before: &Line, after: &Line) -> Result<(), String> {
         let done = after.answer() == 0;
@@ -127,7 +111,6 @@ impl Ledger {
             Call::ClearLine | Call::Write(0x1122, 16, _) if done => self.close(before, None)?,
             Call::Write(0x1120, 16, _) if done => {
                 self.close(before, None)?;
-                self.steps = 100;
                 self.control = 0;
                 self.enable = u32::MAX;
             }
@@ -165,7 +148,6 @@ impl Ledger {
     /// A Control-group write that was answered 0.
     fn set_control(&mut self, result: u32, before: &Line) -> Result<(), String> {
         self.close(before, None)?;
-        self.steps = 100;
         self.control = result & 0xFF;
         if self.control & 0x83 == 0x81 {
             self.stretch = Some(Stretch {
@@ -194,13 +176,8 @@ impl Ledger {
     fn trigger(&mut self, source: u32, before: &Line, after: &Line) -> Result<(), String> {
         if after.answer() != 0 {
             self.checked.neglected += 1;
-            self.checked.busy += usize::from(after.answer() == 13);
             return self.neglected(before, after);
         }
-        ask(self.steps == 100, || {
-            format!("a trigger is accepted {} steps after another", self.steps)
-        })?;
-        self.steps = 0;
         if let Some(stretch) = &mut self.stretch {
             let number = stretch.events.len() as u32 + 1;
             let header = self.geo << 27 | 1 << 26 | source << 16 | number & 0xFFFF;
@@ -216,8 +193,7 @@ impl Ledger {
         let reason = match after.answer() {
             7 => self.control & 3 != 1,
             8 => length == 0,
-            9 => self.steps == 100 && before.stored() + length > before.capacity(),
-            13 => self.steps < 100 && length > 0,
+            9 => before.stored() + length > before.capacity(),
             10 => false,
             12 => before.capacity() == 0,
             _ => false,
@@ -245,15 +221,8 @@ impl Ledger {
         Ok(())
     }
 
-    /// Control, Channel Enable, VETO and the steps as the ledger has them; of a stretch the triggers too.
+    /// Control, Channel Enable and VETO as the ledger has them; of a stretch the triggers too.
     fn settings_are_printed(&self, line: &Line) -> Result<(), String> {
-        ask(self.steps == line.steps(), || {
-            format!(
-                "{} steps are printed where {} are due",
-                line.steps(),
-                self.steps
-            )
-        })?;
         let held = (self.control, self.enable, u32::from(self.veto));
         let printed = (line.control(), line.enable(), line.veto());
         ask(held == printed, || {

@@ -4,8 +4,9 @@ use crate::compare::difference::Verdict;
 use crate::compare::ledger::audit::{audit, Checked};
 use crate::compare::ledger::printed::Printed;
 use crate::inputs::input::hex;
-use crate::listings::trace::steps_from;
+use crate::listings::trace::entries_from;
 use crate::listings::trace_head::{read_head, HeadSwitches};
+use crate::model::module::Call;
 use std::sync::Mutex;
 
 /// What was checked, and the first complaint.
@@ -16,17 +17,17 @@ pub struct Books {
 
 /// What the ledger checks of a listing, or its complaint; nothing of an input of no V830.
 pub fn audit_listing(input: &[u8], listing: &[u8]) -> Result<Checked, String> {
-    let (head, place) = match read_head(input) {
-        Ok(head) => head,
+    let (geo, place) = match read_head(input) {
+        Ok((head, place)) => match head.switches {
+            HeadSwitches::V830([geo, _]) => (geo, place),
+            _ => return Ok(Checked::default()),
+        },
         Err(_) => return Ok(Checked::default()),
     };
-    let geo = match head.switches {
-        HeadSwitches::V830(_, [geo, _]) => geo,
-        _ => return Ok(Checked::default()),
-    };
-    let (steps, _) = steps_from(&head, input, place);
+    let (entries, _) = entries_from(input, place);
+    let calls: Vec<Call> = entries.iter().map(Call::of).collect();
     let printed = Printed::read(listing).ok_or("the listing cannot be read")?;
-    audit(geo, &steps, &printed)
+    audit(geo, &calls, &printed)
 }
 
 impl Books {
@@ -62,14 +63,13 @@ impl Books {
 
 impl Checked {
     /// Each count and its name.
-    fn rows(&self) -> [(usize, &'static str); 8] {
+    fn rows(&self) -> [(usize, &'static str); 7] {
         [
             (self.stretches, "stretches"),
             (self.events, "events"),
             (self.words, "words"),
             (self.balances, "balances of a channel"),
             (self.neglected, "neglected triggers"),
-            (self.busy, "of them while busy"),
             (self.past_16_bits, "trigger numbers past 65,535"),
             (self.past_26_bits, "short counts past 2^26 - 1"),
         ]
@@ -82,7 +82,6 @@ impl Checked {
         self.words += other.words;
         self.balances += other.balances;
         self.neglected += other.neglected;
-        self.busy += other.busy;
         self.past_16_bits += other.past_16_bits;
         self.past_26_bits += other.past_26_bits;
     }
@@ -104,12 +103,10 @@ impl Checked {
 #[cfg(test)]
 mod tests {
     use super::*;
-    use crate::inputs::trace::scripts_timed::at;
     use crate::inputs::trace::scripts_v830::{set_up, CLEAR, MEMORY, SOFTWARE_TRIGGER};
     use crate::listings::trace::own_trace;
-    use crate::listings::trace_head::{input_of, input_of_steps, v830, v830_of};
+    use crate::listings::trace_head::{input_of, v830};
     use crate::model::module::Call::*;
-    use crate::model::timed_log::Log;
 
     /// A run of two stretches: three events of which two words are read, then one event.
     fn run() -> Vec<u8> {
@@ -137,7 +134,6 @@ mod tests {
             words: 2 + 6,
             balances: 2,
             neglected: 1,
-            busy: 0,
             past_16_bits: 0,
             past_26_bits: 0,
         };
@@ -155,7 +151,7 @@ mod tests {
         let told = complaint("\n19 9 0 ", "\n19 7 0 ");
         assert!(told.contains("for no reason"), "{}", told);
         // In the last line the live count of channel 1 is 3; in the memory the last event's is 0.
-        let told = complaint("0 7 0 6 100 0 3 ", "0 7 0 6 100 0 4 ");
+        let told = complaint("0 7 0 6 0 3 ", "0 7 0 6 0 4 ");
         assert!(
             told.contains("pulses were admitted to channel 1"),
             "{}",
@@ -165,39 +161,6 @@ mod tests {
         assert!(told.contains("are not those of the accepted"), "{}", told);
         let told = complaint("memory", "words");
         assert!(told.contains("cannot be read"), "{}", told);
-    }
-
-    /// A timed run: a trigger, one 60 steps later, and one 60 after that, between pulses; then what fills the memory.
-    fn timed_run() -> Vec<u8> {
-        let mut steps = vec![at(0, Write(0x1108, 16, 0xA1)), at(0, Write(0x1100, 32, 2))];
-        steps.extend([at(0, Pulses(1, 5)), at(0, Trigger), at(10, Pulses(1, 6))]);
-        steps.extend([at(50, SOFTWARE_TRIGGER), at(60, Trigger), at(99, Trigger)]);
-        steps.extend([at(1, Trigger), at(100, Trigger), at(0, MEMORY)]);
-        input_of_steps(&v830_of(Log::Timed, 1, 7, 0), &steps, &[])
-    }
-
-    #[test]
-    fn a_trigger_neglected_while_busy_is_numbered_nowhere() {
-        let listing = own_trace(&timed_run());
-        let checked = audit_listing(&timed_run(), listing.as_bytes()).expect("no complaint");
-        // At 60 and at 99 steps busy, at last the memory full of three events of two words.
-        let neglected = (checked.neglected, checked.busy, checked.events);
-        assert_eq!(neglected, (3, 2, 3));
-        let complaint = |from: &str, to: &str| {
-            assert!(listing.contains(from), "{}", listing);
-            let changed = listing.replacen(from, to, 1);
-            audit_listing(&timed_run(), changed.as_bytes()).expect_err("a complaint")
-        };
-        let told = complaint("\n6 13 0 1 161 2 1 ", "\n6 0 0 1 161 2 2 ");
-        assert!(told.contains("accepted 60 steps after"), "{}", told);
-        let told = complaint("\n6 13 0 1 161 2 1 ", "\n6 13 0 1 161 2 2 ");
-        assert!(told.contains("changes something"), "{}", told);
-        let told = complaint("\n7 0 0 1 161 2 2 ", "\n7 13 0 1 161 2 1 ");
-        assert!(told.contains("answered 13 for no reason"), "{}", told);
-        let told = complaint("\n8 13 ", "\n8 9 ");
-        assert!(told.contains("answered 9 for no reason"), "{}", told);
-        let told = complaint(" 0 7 0 2 10 ", " 0 7 0 2 11 ");
-        assert!(told.contains("entry 5: 11 steps are printed"), "{}", told);
     }
 
     #[test]

@@ -4,10 +4,8 @@ use crate::listings::trace_head::TITLE_830;
 use crate::model::block::CHANNELS;
 
 /// The numbers in front of the counts, and all numbers of a line.
-const FRONT: usize = 12;
+const FRONT: usize = 11;
 const NUMBERS: usize = FRONT + CHANNELS;
-/// The place of the steps.
-const STEPS: usize = 11;
 
 /// One line of numbers.
 #[derive(Clone, Copy, Debug, PartialEq, Eq)]
@@ -60,19 +58,15 @@ impl Line {
         self.0[10]
     }
 
-    pub fn steps(&self) -> u32 {
-        self.0[STEPS]
-    }
-
     pub fn counts(&self) -> [u32; CHANNELS] {
         let mut counts = [0; CHANNELS];
         counts.copy_from_slice(&self.0[FRONT..]);
         counts
     }
 
-    /// All that the module holds but for the steps, which time changes.
-    pub fn columns(&self) -> [&[u32]; 2] {
-        [&self.0[3..STEPS], &self.0[FRONT..]]
+    /// All that the module holds.
+    pub fn columns(&self) -> &[u32] {
+        &self.0[3..]
     }
 }
 

@@ -1,18 +1,12 @@
-//! Counts how the longest entries of logs lie over the edges of a buffer.
+//! Counts how the longest entries of `replay`'s logs lie over the edges of a buffer.
 
 use crate::compare::tally::row::{shown_together, Row};
-use crate::inputs::trace::long::{longest_of, EDGE};
+use crate::inputs::trace::long::{EDGE, LONGEST};
 use crate::model::log::{Entry, LOG_ENDS};
-use crate::model::timed_log::Log;
 use std::fmt::{self, Display, Formatter};
 
 /// The length of the longest entry, and that of the longest one that a V830 accepts.
-fn lengths(log: Log) -> [usize; 2] {
-    match log {
-        Log::Old => [10, 9],
-        Log::Timed => [15, 14],
-    }
-}
+const LENGTHS: [usize; 2] = [10, 9];
 
 /// So many bytes of an entry lie before an edge, and so many behind it.
 #[derive(Clone, Copy, Debug, PartialEq, Eq)]
@@ -27,16 +21,15 @@ impl Display for Split {
 
 impl Split {
     /// Every split of a whole entry of these lengths.
-    fn every(log: Log) -> Vec<Split> {
+    fn every() -> Vec<Split> {
         let of = |length| (1..length).map(move |before| Split(before, length - before));
-        lengths(log).into_iter().flat_map(of).collect()
+        LENGTHS.into_iter().flat_map(of).collect()
     }
 
     /// Every split of a longest entry that is cut at the edge or behind it.
-    fn every_cut(log: Log) -> Vec<Split> {
-        let [longest, _] = lengths(log);
-        let of = |before| (0..longest - before).map(move |behind| Split(before, behind));
-        (1..longest).flat_map(of).collect()
+    fn every_cut() -> Vec<Split> {
+        let of = |before| (0..LENGTHS[0] - before).map(move |behind| Split(before, behind));
+        (1..LENGTHS[0]).flat_map(of).collect()
     }
 
     /// How the entry over an edge is split, if one lies over it.
@@ -55,17 +48,16 @@ impl Split {
     }
 
     /// How an entry is split that begins before the first edge and is cut, if the log ends in one.
-    fn cut(log: Log, bytes: &[u8], fault: Option<(u32, usize)>) -> Option<Split> {
+    fn cut(log: &[u8], fault: Option<(u32, usize)>) -> Option<Split> {
         let (_, begin) = fault.filter(|(answer, _)| *answer == LOG_ENDS)?;
-        let longest = longest_of(log).starts_with(&bytes[begin..]);
-        let over = longest && begin < EDGE && bytes.len() >= EDGE;
-        over.then(|| Split(EDGE - begin, bytes.len() - EDGE))
+        let longest = LONGEST.bytes().starts_with(&log[begin..]);
+        let over = longest && begin < EDGE && log.len() >= EDGE;
+        over.then(|| Split(EDGE - begin, log.len() - EDGE))
     }
 }
 
 /// The splits of all logs.
 pub struct EdgeTally {
-    log: Log,
     first: Row<Split>,
     /// At twice the buffer's length, and at that less the bytes that are kept.
     second: Row<Split>,
@@ -73,25 +65,26 @@ pub struct EdgeTally {
     cut: Row<Split>,
 }
 
-impl EdgeTally {
-    /// Nothing seen yet of logs of this kind.
-    pub fn new(log: Log) -> EdgeTally {
+impl Default for EdgeTally {
+    /// Nothing seen yet.
+    fn default() -> EdgeTally {
         EdgeTally {
-            log,
-            first: Row::new("over edge 1", Split::every(log)),
-            second: Row::new("over edge 2", Split::every(log)),
-            second_kept: Row::new("over edge 2, kept", Split::every(log)),
-            cut: Row::new("cut over edge 1", Split::every_cut(log)),
+            first: Row::new("over edge 1", Split::every()),
+            second: Row::new("over edge 2", Split::every()),
+            second_kept: Row::new("over edge 2, kept", Split::every()),
+            cut: Row::new("cut over edge 1", Split::every_cut()),
         }
     }
+}
 
+impl EdgeTally {
     /// Counts the splits of one log, of which these are the entries and the fault.
-    pub fn add(&mut self, bytes: &[u8], entries: &[Entry], fault: Option<(u32, usize)>) {
+    pub fn add(&mut self, log: &[u8], entries: &[Entry], fault: Option<(u32, usize)>) {
         for (row, split) in [
             (&mut self.first, Split::over(EDGE, entries)),
             (&mut self.second, Split::over(2 * EDGE, entries)),
             (&mut self.second_kept, Split::over_kept(entries)),
-            (&mut self.cut, Split::cut(self.log, bytes, fault)),
+            (&mut self.cut, Split::cut(log, fault)),
         ] {
             split.into_iter().for_each(|split| row.add(split));
         }
@@ -111,20 +104,17 @@ impl EdgeTally {
 #[cfg(test)]
 mod tests {
     use super::*;
-    use crate::inputs::input::Input;
     use crate::inputs::replay::edges::edge_replays;
-    use crate::inputs::replay_timed::edges::edge_timed_replays;
-    use crate::inputs::trace::long::LONGEST;
-    use crate::listings::trace::{entries_from, timed_from};
+    use crate::listings::trace::entries_from;
 
     /// A log, its entries and its fault.
     type Parsed = (Vec<u8>, Vec<Entry>, Option<(u32, usize)>);
 
     /// That without these logs this is said to be missing, or nothing if it is empty.
-    fn assert_missing(log: Log, all: &[Parsed], left_out: impl Fn(&Parsed) -> bool, missing: &str) {
-        let mut tally = EdgeTally::new(log);
-        for (bytes, entries, fault) in all.iter().filter(|parsed| !left_out(parsed)) {
-            tally.add(bytes, entries, *fault);
+    fn assert_missing(all: &[Parsed], left_out: impl Fn(&Parsed) -> bool, missing: &str) {
+        let mut tally = EdgeTally::default();
+        for (log, entries, fault) in all.iter().filter(|parsed| !left_out(parsed)) {
+            tally.add(log, entries, *fault);
         }
         let (words, complete) = tally.shown();
         let told = format!("never occurred: {}\n", missing);
@@ -132,34 +122,27 @@ mod tests {
         assert!(complete || words.contains(&told), "{}", words);
     }
 
-    /// That no split of these logs can be left out.
-    fn assert_needed(log: Log, inputs: Vec<Input>) {
-        let parsed = |input: Input| {
-            let (timed, fault) = timed_from(log, &input.bytes, 0);
-            let entries = timed.iter().map(|timed| timed.entry).collect();
-            (input.bytes, entries, fault)
-        };
-        let all: Vec<Parsed> = inputs.into_iter().map(parsed).collect();
-        assert_missing(log, &all, |_| false, "");
-        for split in Split::every_cut(log) {
-            let is_cut = |(bytes, _, fault): &Parsed| Split::cut(log, bytes, *fault) == Some(split);
-            assert_missing(log, &all, is_cut, &format!("cut over edge 1 {}", split));
-        }
-        for split in Split::every(log) {
-            for (number, edge) in [(1, EDGE), (2, 2 * EDGE)] {
-                let is_laid = |parsed: &Parsed| Split::over(edge, &parsed.1) == Some(split);
-                let missing = format!("over edge {} {}", number, split);
-                assert_missing(log, &all, is_laid, &missing);
-            }
-            let is_laid = |parsed: &Parsed| Split::over_kept(&parsed.1) == Some(split);
-            assert_missing(log, &all, is_laid, &format!("over edge 2, kept {}", split));
-        }
-    }
-
     #[test]
     fn no_split_can_be_left_out() {
-        assert_needed(Log::Old, edge_replays());
-        assert_needed(Log::Timed, edge_timed_replays());
+        let parsed = |log: Vec<u8>| {
+            let (entries, fault) = entries_from(&log, 0);
+            (log, entries, fault)
+        };
+        let logs = edge_replays().into_iter().map(|input| input.bytes);
+        let all: Vec<Parsed> = logs.map(parsed).collect();
+        assert_missing(&all, |_| false, "");
+        for split in Split::every_cut() {
+            let is_cut = |(log, _, fault): &Parsed| Split::cut(log, *fault) == Some(split);
+            assert_missing(&all, is_cut, &format!("cut over edge 1 {}", split));
+        }
+        for split in Split::every() {
+            for (number, edge) in [(1, EDGE), (2, 2 * EDGE)] {
+                let is_laid = |parsed: &Parsed| Split::over(edge, &parsed.1) == Some(split);
+                assert_missing(&all, is_laid, &format!("over edge {} {}", number, split));
+            }
+            let is_laid = |parsed: &Parsed| Split::over_kept(&parsed.1) == Some(split);
+            assert_missing(&all, is_laid, &format!("over edge 2, kept {}", split));
+        }
     }
 
     #[test]
@@ -177,8 +160,9 @@ mod tests {
         assert_eq!(Split::over(2 * EDGE - 3, &entries), None);
         assert_eq!(Split::over(3 * EDGE, &entries), None);
         assert_eq!(Split::over(65_533, &entries), None);
-        let cut = |bytes: &[u8]| Split::cut(Log::Old, bytes, entries_from(bytes, 0).1);
-        assert_eq!(cut(&log[..65_538]), Some(Split(3, 2)));
-        assert_eq!(cut(&log[..65_535]), None);
+        let cut = &log[..65_538];
+        assert_eq!(Split::cut(cut, entries_from(cut, 0).1), Some(Split(3, 2)));
+        let before = &log[..65_535];
+        assert_eq!(Split::cut(before, entries_from(before, 0).1), None);
     }
 }

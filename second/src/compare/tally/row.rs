@@ -4,14 +4,13 @@ use std::fmt::Display;
 
 /// How often each of the possible things was seen.
 pub struct Row<T> {
-    title: String,
+    title: &'static str,
     seen: Vec<(T, usize)>,
 }
 
 impl<T: Copy + PartialEq + Display> Row<T> {
     /// A row of possible things, none of them seen yet.
-    pub fn new(title: impl ToString, possible: impl IntoIterator<Item = T>) -> Row<T> {
-        let title = title.to_string();
+    pub fn new(title: &'static str, possible: impl IntoIterator<Item = T>) -> Row<T> {
         let seen = possible.into_iter().map(|what| (what, 0)).collect();
         Row { title, seen }
     }
@@ -30,14 +29,14 @@ impl<T: Copy + PartialEq + Display> Row<T> {
             .iter()
             .map(|(what, times)| format!("{}: {}", what, times))
             .collect();
-        self.with_missing(format!("{:<20}{}\n", self.title, columns.join("  ")))
+        self.with_missing(format!("{:<18}{}\n", self.title, columns.join("  ")))
     }
 
     /// The least of the counts in words, and whether every possible thing was seen.
     pub fn shown_least(&self) -> (String, bool) {
         let least = self.seen.iter().map(|(_, times)| times).min();
         let least = format!("each at least {} times", least.unwrap_or(&0));
-        self.with_missing(format!("{:<20}{}\n", self.title, least))
+        self.with_missing(format!("{:<18}{}\n", self.title, least))
     }
 
     /// The words, with those for things never seen behind them, and whether there are none.

@@ -131,7 +131,7 @@ impl ModuleTally {
         match head.switches {
             HeadSwitches::V260([joined, ..]) => self.joins.add(shape_260(joined)),
             HeadSwitches::V560([joined]) => self.joins.add(shape_560(joined)),
-            HeadSwitches::V830(..) => {}
+            HeadSwitches::V830(_) => {}
         }
         let (given, module) = own_start(head);
         self.starts.add(given.answer);

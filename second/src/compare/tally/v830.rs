@@ -2,20 +2,15 @@
 
 use crate::compare::tally::row::{shown_together, Row};
 use crate::compare::tally::scalers::{access_of, all_accesses, Access};
-use crate::compare::tally::times::TimeTally;
 use crate::listings::own_module::{own_start, Own};
 use crate::listings::trace_head::Head;
 use crate::model::block::CHANNELS;
-use crate::model::module::{Call, Module, Step};
-use crate::model::timed_log::Log;
+use crate::model::module::{Call, Module};
 use crate::model::v830::{Record, AUTO_RESET, HEADER, SHORT, TABLE_830, V830};
 
 /// Every answer of a call. 10 is the start's only: behind it the words lent are always those of the
-/// start. 11 cannot be: a log's channel is at most 31. 13 is the timed log's only.
-const ANSWERS: [u32; 12] = [0, 1, 2, 3, 4, 5, 6, 7, 8, 9, 12, 13];
-
-/// What an old log cannot give: its entries are 100 steps apart.
-const NEVER_BUSY: u32 = 13;
+/// start. 11 cannot be: a log's channel is at most 31.
+const ANSWERS: [u32; 11] = [0, 1, 2, 3, 4, 5, 6, 7, 8, 9, 12];
 
 /// What a replay cannot give. Its module is always started with GEO 0 and the same words, so that no
 /// start is refused, no later call is lent other words (10) and no record is malformed (12): no call
@@ -132,33 +127,28 @@ pub struct V830Tally {
     accesses: Row<Access>,
     window: Row<u32>,
     channels: Row<u32>,
-    /// What the times of timed logs gave.
-    times: Option<TimeTally>,
+}
+
+impl Default for V830Tally {
+    /// Nothing seen yet of modules that are started anyhow.
+    fn default() -> V830Tally {
+        V830Tally::without(&[], &[])
+    }
 }
 
 impl V830Tally {
-    /// Nothing seen yet of modules that are started anyhow, with logs of this kind.
-    pub fn of_trace(log: Log) -> V830Tally {
-        V830Tally::without(log, &[], &[])
-    }
-
-    /// Nothing seen yet of the module of a replay of logs of this kind.
-    pub fn of_replay(log: Log) -> V830Tally {
-        V830Tally::without(log, &NEVER_ANSWERED, &NEVER_IN_REPLAY)
+    /// Nothing seen yet of the module of a replay.
+    pub fn of_replay() -> V830Tally {
+        V830Tally::without(&NEVER_ANSWERED, &NEVER_IN_REPLAY)
     }
 
     /// Nothing seen yet, these answers and these things not being possible.
-    fn without(log: Log, numbers: &[u32], things: &[&str]) -> V830Tally {
+    fn without(numbers: &[u32], things: &[&str]) -> V830Tally {
         let [own, counters, window] = TABLE_830;
         let ends = [&window[..2], &window[1_022..]];
-        let (name, never) = match log {
-            Log::Old => ("V830", Some(NEVER_BUSY)),
-            Log::Timed => ("timed", None),
-        };
-        let title = |what: &str| format!("{} {}", name, what);
         let answered = |all: &[u32]| -> Vec<u32> {
             let mut all = all.to_vec();
-            all.retain(|answer| !numbers.contains(answer) && never != Some(*answer));
+            all.retain(|answer| !numbers.contains(answer));
             all
         };
         let done = |all: &[&'static str]| -> Vec<&'static str> {
@@ -167,46 +157,40 @@ impl V830Tally {
             all
         };
         V830Tally {
-            answers: Row::new(title("answers"), answered(&ANSWERS)),
-            starts: Row::new(title("starts"), answered(&[0, 10, 12])),
-            triggers: Row::new(title("triggers"), done(&TRIGGERS)),
-            formats: Row::new(title("formats"), FORMATS),
-            events: Row::new(title("events"), EVENTS),
-            reads: Row::new(title("memory reads"), READS),
-            stores: Row::new(title("stored words"), STORES),
-            writes: Row::new(title("writes"), WRITES),
-            modes: Row::new(title("modes"), [0, 1, 2]),
-            bits: Row::new(title("Control bits"), 0..=7),
-            pulses: Row::new(title("pulses"), done(&PULSES)),
+            answers: Row::new("V830 answers", answered(&ANSWERS)),
+            starts: Row::new("V830 starts", answered(&[0, 10, 12])),
+            triggers: Row::new("V830 triggers", done(&TRIGGERS)),
+            formats: Row::new("V830 formats", FORMATS),
+            events: Row::new("V830 events", EVENTS),
+            reads: Row::new("V830 memory reads", READS),
+            stores: Row::new("V830 stored words", STORES),
+            writes: Row::new("V830 writes", WRITES),
+            modes: Row::new("V830 modes", [0, 1, 2]),
+            bits: Row::new("V830 Control bits", 0..=7),
+            pulses: Row::new("V830 pulses", done(&PULSES)),
             accesses: Row::new(
-                title("accesses"),
+                "V830 accesses",
                 all_accesses(&[own, counters, ends[0], ends[1]]),
             ),
-            window: Row::new(title("window by 64"), 0..64),
-            channels: Row::new(title("pulsed 0..31"), 0..=31),
-            times: (log == Log::Timed).then(|| TimeTally::new(name)),
+            window: Row::new("V830 window by 64", 0..64),
+            channels: Row::new("V830 pulsed 0..31", 0..=31),
         }
     }
 
-    /// Counts a start and the steps behind it.
-    pub fn add_run(&mut self, head: &Head, steps: &[Step]) {
+    /// Counts a start and the calls behind it.
+    pub fn add_run(&mut self, head: &Head, calls: impl Iterator<Item = Call>) {
         let (given, module) = own_start(head);
         self.starts.add(given.answer);
-        self.times.iter_mut().for_each(TimeTally::begin);
         if let Own::V830(mut module) = module {
-            steps.iter().for_each(|step| self.add(&mut module, *step));
+            calls.for_each(|call| self.add(&mut module, call));
         }
     }
 
-    /// Counts one step and does it.
-    fn add(&mut self, module: &mut V830, step: Step) {
-        let call = step.call;
+    /// Counts one call and does it.
+    fn add(&mut self, module: &mut V830, call: Call) {
         let before = module.record;
-        let answer = module.step(step).answer;
+        let answer = module.call(call).answer;
         let after = module.record;
-        if let Some(times) = &mut self.times {
-            times.add(&before, step, answer, &after);
-        }
         self.answers.add(answer);
         if let Some(access) = access_of(call) {
             self.accesses.add(access);
@@ -266,9 +250,8 @@ impl V830Tally {
             7 if before.mode() == 0 => 1,
             7 => 2,
             8 => 3,
-            9 if before.stored > 0 => 4,
-            9 => 5,
-            _ => return,
+            _ if before.stored > 0 => 4,
+            _ => 5,
         };
         self.triggers.add(TRIGGERS[from + what]);
         if answer == 0 {
@@ -339,9 +322,7 @@ impl V830Tally {
 
     /// The counts in words, and whether every possible thing occurred.
     pub fn shown(&self) -> (String, bool) {
-        let times = self.times.as_ref();
         shown_together([
-            times.map_or((String::new(), true), TimeTally::shown),
             self.answers.shown(),
             self.starts.shown(),
             self.triggers.shown(),

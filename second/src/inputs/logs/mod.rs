@@ -2,7 +2,6 @@
 
 pub mod case;
 pub mod entries;
-pub mod faulty_times;
 pub mod fixed;
 pub mod random;
 pub mod whole;

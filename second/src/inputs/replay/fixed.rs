@@ -70,7 +70,7 @@ fn settings_of(length: u32) -> (u32, u32) {
 }
 
 /// The memory filled, read to its last word and beyond, and used again from its beginning.
-pub fn every_word() -> Vec<Call> {
+fn every_word() -> Vec<Call> {
     let mut calls = set_up(u32::MAX, 0x81);
     for turn in 0..512 {
         calls.extend([Pulses(turn % 32, turn % 200), Test, Trigger]);

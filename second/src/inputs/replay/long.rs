@@ -19,7 +19,7 @@ const ACROSS: [Call; 4] = [
 ];
 
 /// What is looked at behind each edge.
-pub const LOOK: [Call; 8] = [
+const LOOK: [Call; 8] = [
     Read(0x1078, 32),
     TRIGGERS,
     NUMBER,
@@ -31,7 +31,7 @@ pub const LOOK: [Call; 8] = [
 ];
 
 /// So many lines of ten bytes are longer than two buffers.
-pub const MANY_LINES: usize = 14_500;
+const MANY_LINES: usize = 14_500;
 
 /// All long logs, from the seed.
 pub fn long_replays(seed: u64) -> Vec<Input> {
@@ -114,7 +114,7 @@ fn fill_to(bytes: &mut Vec<u8>, length: usize) {
 }
 
 /// So many entries of one byte behind few whose values have so many digits more than one.
-pub fn listed(shift: usize, entries: usize) -> Vec<u8> {
+fn listed(shift: usize, entries: usize) -> Vec<u8> {
     let mut calls = vec![Pulses(0, 12)];
     calls.extend((0..10).map(|turn| match turn < shift {
         true => Read(0x1000, 32),
@@ -127,7 +127,7 @@ pub fn listed(shift: usize, entries: usize) -> Vec<u8> {
 
 /// A log whose listing's last line but one is the last that ends before the edge, and whose last line
 /// tells of a fault.
-pub fn fault_listed(shift: usize) -> Vec<u8> {
+fn fault_listed(shift: usize) -> Vec<u8> {
     let entries = |length: usize| {
         let listing = own_replay(&listed(shift, MANY_LINES));
         listing[..length].matches('\n').count() - 1
@@ -139,7 +139,7 @@ pub fn fault_listed(shift: usize) -> Vec<u8> {
 }
 
 /// More entries than 16 bits count, each of one byte, and a fault whose place needs more than these.
-pub fn one_byte_entries() -> Vec<u8> {
+fn one_byte_entries() -> Vec<u8> {
     let mut bytes: Vec<u8> = [2, 3, 4, 7].into_iter().cycle().take(70_000).collect();
     bytes.extend(Read(0x1000, 32).bytes());
     bytes.push(0x80);

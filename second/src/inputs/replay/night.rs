@@ -6,7 +6,6 @@ use crate::inputs::trace::scripts_v830::{
 };
 use crate::model::block::CHANNELS;
 use crate::model::module::Call::{self, *};
-use crate::model::write_log::shortest;
 use std::io::{self, Write as Output};
 
 /// Channel Enable and Control at the beginning: four channels; random trigger, header, AUTO RESET.
@@ -125,17 +124,10 @@ impl Iterator for Night {
     }
 }
 
-/// Writes a night of so many entries: an old log, or a timed one with this time in front of each entry.
-pub fn write_night(
-    output: &mut dyn Output,
-    entries: usize,
-    seed: u64,
-    time: Option<u32>,
-) -> io::Result<()> {
+/// Writes a night of so many entries.
+pub fn write_night(output: &mut dyn Output, entries: usize, seed: u64) -> io::Result<()> {
     let mut output = io::BufWriter::with_capacity(1 << 16, output);
-    let time = time.map_or(Vec::new(), shortest);
     for call in Night::new(entries, seed) {
-        output.write_all(&time)?;
         output.write_all(&call.bytes())?;
     }
     output.flush()
@@ -144,26 +136,14 @@ pub fn write_night(
 #[cfg(test)]
 mod tests {
     use super::*;
-    use crate::listings::replay::{own_replay, own_replay_timed};
+    use crate::listings::replay::own_replay;
     use crate::listings::trace::entries_from;
 
     /// A night as bytes.
     fn night(entries: usize, seed: u64) -> Vec<u8> {
         let mut bytes = Vec::new();
-        write_night(&mut bytes, entries, seed, None).expect("a Vec takes every byte");
+        write_night(&mut bytes, entries, seed).expect("a Vec takes every byte");
         bytes
-    }
-
-    #[test]
-    fn a_timed_night_has_the_same_entries_behind_its_times() {
-        let mut timed = Vec::new();
-        write_night(&mut timed, 2, 7, Some(300)).expect("a Vec takes every byte");
-        let first = [0xAC, 2, 6, 0x80, 0x22, 32, 0x81, 0x82, 0x84, 0x80, 0x08];
-        let second = [0xAC, 2, 6, 0x88, 0x22, 16, 0xA1, 0x01];
-        assert_eq!(timed, [&first[..], &second].concat());
-        let mut timed = Vec::new();
-        write_night(&mut timed, 5_000, 7, Some(100)).expect("a Vec takes every byte");
-        assert_eq!(own_replay_timed(&timed), own_replay(&night(5_000, 7)));
     }
 
     #[test]

@@ -5,7 +5,7 @@ use crate::inputs::logs::entries::{good_entry, odd_entry};
 use crate::inputs::replay::fixed::{every_fault, log_of};
 use crate::inputs::rng::Rng;
 use crate::inputs::trace::long::full_memory;
-use crate::inputs::trace::random::{is_tame, make_steps, tame};
+use crate::inputs::trace::random::{is_tame, make_calls, tame};
 use crate::inputs::trace::scripts_v830::{
     BIT_SET, CLEAR, ENABLE, MEMORY, NUMBER, SOFTWARE_TRIGGER, TRIGGERS,
 };
@@ -49,8 +49,7 @@ pub fn whole_log(rng: &mut Rng) -> Vec<u8> {
         5..=8 => rng.between(60, 300),
         _ => rng.between(300, 1_500),
     };
-    let steps = make_steps(rng, &replay_head(), entries);
-    steps.iter().flat_map(|step| step.call.bytes()).collect()
+    log_of(&make_calls(rng, &replay_head(), entries))
 }
 
 /// A Control content of mode random.
@@ -59,8 +58,8 @@ fn random_control(rng: &mut Rng) -> u32 {
     RANDOM | rng.word() as u32 & bits
 }
 
-/// Channel Enable and Control with which the memory is filled in so many events at most.
-pub fn settings_of_full(rng: &mut Rng, turn: usize) -> (u32, u32) {
+/// The memory filled with events, pulses in between, and calls of a full memory behind that.
+fn full_log(rng: &mut Rng, turn: usize) -> Vec<u8> {
     // The first few have events that fill a memory of 16,384 words to its last one.
     let channels = match turn % 3 {
         0 => CHANNELS,
@@ -74,12 +73,6 @@ pub fn settings_of_full(rng: &mut Rng, turn: usize) -> (u32, u32) {
         0 => random_control(rng) & !HEADER,
         _ => random_control(rng),
     };
-    (enable, control)
-}
-
-/// The memory filled with events, pulses in between, and calls of a full memory behind that.
-fn full_log(rng: &mut Rng, turn: usize) -> Vec<u8> {
-    let (enable, control) = settings_of_full(rng, turn);
     let mut calls = full_memory(REPLAY_WORDS, enable, control);
     for _ in 0..rng.between(20, 80) {
         let pulses = Pulses(rng.below(CHANNELS) as u32, rng.below(300) as u32);
@@ -93,7 +86,7 @@ fn full_log(rng: &mut Rng, turn: usize) -> Vec<u8> {
 }
 
 /// A call that tells whether a full memory is as it must be, or changes it a little.
-pub fn call_of_full(rng: &mut Rng) -> Call {
+fn call_of_full(rng: &mut Rng) -> Call {
     let pulses = Pulses(rng.below(CHANNELS) as u32, rng.below(300) as u32);
     rng.pick_by_share(&[
         (30, MEMORY),

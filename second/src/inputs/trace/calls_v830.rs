@@ -10,7 +10,7 @@ use crate::model::module::Call;
 use crate::model::v830::{AUTO_RESET, CLEAR_EMPTIES, HEADER, MODE, RANDOM, SHORT, TABLE_830, V830};
 
 /// A way of making the next calls.
-pub type Maker = fn(&mut Rng, &V830) -> Vec<Call>;
+type Maker = fn(&mut Rng, &V830) -> Vec<Call>;
 
 /// What a run is mostly about: its makers, each with its share of the turns.
 #[derive(Clone, Copy)]
@@ -21,7 +21,7 @@ pub struct Profile830 {
 }
 
 /// A profile of these makers.
-pub const fn profile(sets_up: bool, makers: &'static [(usize, Maker)]) -> Profile830 {
+const fn profile(sets_up: bool, makers: &'static [(usize, Maker)]) -> Profile830 {
     Profile830 { sets_up, makers }
 }
 
@@ -108,7 +108,7 @@ pub fn next_calls_830(rng: &mut Rng, profile: Profile830, module: &V830) -> Vec<
 }
 
 /// A Channel Enable of which an event, or several, mostly fit into the memory.
-pub fn fitting_enable(rng: &mut Rng, module: &V830) -> u32 {
+fn fitting_enable(rng: &mut Rng, module: &V830) -> u32 {
     match rng.below(10) {
         0 => return u32::MAX,
         1 => return any_enable(rng),
@@ -162,7 +162,7 @@ fn any_pulses(rng: &mut Rng, _: &V830) -> Vec<Call> {
 }
 
 /// Pulses on one or two enabled channels; at times VETO is lifted first.
-pub fn pulses_of_enabled(rng: &mut Rng, module: &V830) -> Vec<Call> {
+fn pulses_of_enabled(rng: &mut Rng, module: &V830) -> Vec<Call> {
     let channels = module.record.settings().channels();
     if channels.is_empty() {
         return any_pulses(rng, module);
@@ -192,12 +192,12 @@ fn telling_pulses(rng: &mut Rng, module: &V830) -> Vec<Call> {
 }
 
 /// TEST.
-pub fn any_test(_: &mut Rng, _: &V830) -> Vec<Call> {
+fn any_test(_: &mut Rng, _: &V830) -> Vec<Call> {
     vec![Call::Test]
 }
 
 /// The VETO line; one that is on mostly goes off.
-pub fn any_veto(rng: &mut Rng, module: &V830) -> Vec<Call> {
+fn any_veto(rng: &mut Rng, module: &V830) -> Vec<Call> {
     vec![Call::VetoLine(match module.record.veto {
         true => rng.one_in(4),
         false => !rng.one_in(4),
@@ -205,7 +205,7 @@ pub fn any_veto(rng: &mut Rng, module: &V830) -> Vec<Call> {
 }
 
 /// A trigger, by the line or by the register.
-pub fn any_trigger(rng: &mut Rng) -> Call {
+fn any_trigger(rng: &mut Rng) -> Call {
     match rng.below(2) {
         0 => Call::Trigger,
         _ => Call::Write(0x1124, 16, any_half_word(rng)),
@@ -223,7 +223,7 @@ fn trigger(rng: &mut Rng, module: &V830) -> Vec<Call> {
 }
 
 /// Several triggers, with pulses in between at times.
-pub fn triggers(rng: &mut Rng, module: &V830) -> Vec<Call> {
+fn triggers(rng: &mut Rng, module: &V830) -> Vec<Call> {
     let mut calls = Vec::new();
     for _ in 0..rng.between(1, 5) {
         calls.push(any_trigger(rng));
@@ -245,7 +245,7 @@ fn memory_read(rng: &mut Rng) -> Call {
 }
 
 /// A few memory reads, or one of an empty memory.
-pub fn reading(rng: &mut Rng, module: &V830) -> Vec<Call> {
+fn reading(rng: &mut Rng, module: &V830) -> Vec<Call> {
     if module.record.stored == 0 {
         return vec![memory_read(rng)];
     }
@@ -254,13 +254,13 @@ pub fn reading(rng: &mut Rng, module: &V830) -> Vec<Call> {
 }
 
 /// Memory reads of all that is stored, if it is not very much, and at times of one word more.
-pub fn draining(rng: &mut Rng, module: &V830) -> Vec<Call> {
+fn draining(rng: &mut Rng, module: &V830) -> Vec<Call> {
     let words = module.record.stored.min(34) + usize::from(rng.one_in(4));
     (0..words).map(|_| memory_read(rng)).collect()
 }
 
 /// A read of a register that tells of the store.
-pub fn store_register(rng: &mut Rng, _: &V830) -> Vec<Call> {
+fn store_register(rng: &mut Rng, _: &V830) -> Vec<Call> {
     let reads = [
         Call::Read(0x1134, 16),
         Call::Read(0x1134, 16),
@@ -277,7 +277,7 @@ fn counter_read(rng: &mut Rng, _: &V830) -> Vec<Call> {
 }
 
 /// A Channel Enable write, whether words are stored or not; at times of the value it has.
-pub fn enabling(rng: &mut Rng, module: &V830) -> Vec<Call> {
+fn enabling(rng: &mut Rng, module: &V830) -> Vec<Call> {
     let mut calls = match rng.below(2) {
         0 => draining(rng, module),
         _ => Vec::new(),
@@ -291,7 +291,7 @@ pub fn enabling(rng: &mut Rng, module: &V830) -> Vec<Call> {
 }
 
 /// Any of the three Control writes.
-pub fn control_write(rng: &mut Rng, module: &V830) -> Vec<Call> {
+fn control_write(rng: &mut Rng, module: &V830) -> Vec<Call> {
     let data = rng.word() as u32 & rng.word() as u32 & 0xFF | high_bits(rng);
     let same = module.record.control;
     vec![match rng.below(8) {
@@ -305,7 +305,7 @@ pub fn control_write(rng: &mut Rng, module: &V830) -> Vec<Call> {
 }
 
 /// A Control write whose result has both low bits 1.
-pub fn refused_control(rng: &mut Rng, module: &V830) -> Vec<Call> {
+fn refused_control(rng: &mut Rng, module: &V830) -> Vec<Call> {
     let data = any_control(rng);
     let other = !module.record.control & MODE;
     vec![match rng.below(3) {
@@ -316,7 +316,7 @@ pub fn refused_control(rng: &mut Rng, module: &V830) -> Vec<Call> {
 }
 
 /// CLEAR by the line or by the register.
-pub fn any_clear(rng: &mut Rng, _: &V830) -> Vec<Call> {
+fn any_clear(rng: &mut Rng, _: &V830) -> Vec<Call> {
     vec![match rng.below(2) {
         0 => Call::ClearLine,
         _ => Call::Write(0x1122, 16, any_half_word(rng)),
@@ -324,7 +324,7 @@ pub fn any_clear(rng: &mut Rng, _: &V830) -> Vec<Call> {
 }
 
 /// Software Reset, and at times all set up again.
-pub fn reset(rng: &mut Rng, module: &V830) -> Vec<Call> {
+fn reset(rng: &mut Rng, module: &V830) -> Vec<Call> {
     let mut calls = vec![Call::Write(0x1120, 16, any_half_word(rng))];
     if !rng.one_in(4) {
         calls.extend(setting_up(rng, module));
@@ -338,7 +338,7 @@ fn upsetting(rng: &mut Rng, module: &V830) -> Vec<Call> {
 }
 
 /// Any access to a register that there is; what empties the memory is rarer than the others.
-pub fn any_access(rng: &mut Rng, _: &V830) -> Vec<Call> {
+fn any_access(rng: &mut Rng, _: &V830) -> Vec<Call> {
     let [own, counters, window] = TABLE_830;
     let ends = [&window[..2], &window[1_022..]];
     let parts = [
@@ -357,7 +357,7 @@ pub fn any_access(rng: &mut Rng, _: &V830) -> Vec<Call> {
 }
 
 /// An access to an offset that is not in the table, or nearly so.
-pub fn bad_offset(rng: &mut Rng, _: &V830) -> Vec<Call> {
+fn bad_offset(rng: &mut Rng, _: &V830) -> Vec<Call> {
     let rows = rng.pick(&TABLE_830);
     let offset = match rng.below(4) {
         0 => any_half_word(rng),
@@ -369,7 +369,7 @@ pub fn bad_offset(rng: &mut Rng, _: &V830) -> Vec<Call> {
 }
 
 /// MAN CLR, for which there is no button.
-pub fn man_clr(_: &mut Rng, _: &V830) -> Vec<Call> {
+fn man_clr(_: &mut Rng, _: &V830) -> Vec<Call> {
     vec![Call::ManClr]
 }
 

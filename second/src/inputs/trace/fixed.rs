@@ -2,7 +2,6 @@
 
 use crate::inputs::input::Input;
 use crate::inputs::trace::broken::{add_ends, add_heads};
-use crate::inputs::trace::fixed_timed::fixed_timed_traces;
 use crate::inputs::trace::fixed_v830::fixed_v830_traces;
 use crate::inputs::trace::scripts::{scripts, ARMED, REMOVAL};
 use crate::listings::trace_head::{input_of, v260, v560, Head};
@@ -124,7 +123,6 @@ pub fn fixed_traces() -> Vec<Input> {
     add_depths(&mut inputs);
     add_refusals(&mut inputs);
     inputs.extend(fixed_v830_traces());
-    inputs.extend(fixed_timed_traces());
     inputs
 }
 

@@ -41,7 +41,7 @@ pub fn marked_830() -> Vec<(&'static str, Head, Vec<Call>)> {
 }
 
 /// The heads with which every script is run.
-pub fn heads_830() -> Vec<Head> {
+fn heads_830() -> Vec<Head> {
     let mut heads = vec![
         v830(1, 65, u32::MAX - 2),
         v830(31, 66, u32::MAX),

@@ -4,7 +4,6 @@ use crate::inputs::rng::Rng;
 use crate::inputs::trace::heads::any_distance;
 use crate::listings::trace_head::{Head, HeadSwitches};
 use crate::model::block::{BIT_26, CHANNELS, LARGEST_GEO};
-use crate::model::timed_log::Log;
 
 /// GEOs above 31, some of them good once cut to fewer bits.
 pub const GEOS_ABOVE: [u32; 8] = [32, 33, 63, 255, 256, 65_537, 0x8000_0001, u32::MAX];
@@ -48,24 +47,14 @@ fn any_count(rng: &mut Rng) -> u32 {
     }
 }
 
-/// A V830's head in front of an old log.
+/// A V830's head.
 pub fn head_830(rng: &mut Rng) -> Head {
-    head_of(rng, Log::Old)
-}
-
-/// A V830's head in front of a timed log.
-pub fn head_831(rng: &mut Rng) -> Head {
-    head_of(rng, Log::Timed)
-}
-
-/// A V830's head in front of this log.
-fn head_of(rng: &mut Rng, log: Log) -> Head {
     let geo = any_geo(rng);
     let capacity = match geo > LARGEST_GEO && rng.one_in(3) {
         true => rng.pick(&[0, 0, 0, 32_769]),
         false => any_capacity(rng),
     };
-    let switches = HeadSwitches::V830(log, [geo, capacity]);
+    let switches = HeadSwitches::V830([geo, capacity]);
     let counts = (0..CHANNELS).map(|_| any_count(rng)).collect();
     Head { switches, counts }
 }

@@ -2,11 +2,10 @@
 
 use crate::inputs::input::Input;
 use crate::inputs::rng::Rng;
-use crate::inputs::trace::random::{make_steps, HEAD_MAKERS};
+use crate::inputs::trace::random::{make_calls, HEAD_MAKERS};
 use crate::inputs::trace::scripts_v830::{set_up, MEMORY, NUMBER, SOFTWARE_TRIGGER, TRIGGERS};
 use crate::listings::trace_head::{input_of, v830, Head, HeadSwitches};
-use crate::model::module::{Call, Step};
-use crate::model::timed_log::Log;
+use crate::model::module::Call;
 
 /// What a program may well read at a time.
 pub const EDGE: usize = 65_536;
@@ -14,35 +13,12 @@ pub const EDGE: usize = 65_536;
 /// The longest entry there is, of ten bytes, and what it asks of any module.
 pub const LONGEST: Call = Call::Write(65_535, 32, u32::MAX);
 
-/// The longest entry of a log: that one, in a timed log behind the longest time, of fifteen bytes.
-pub fn longest_of(log: Log) -> Vec<u8> {
-    Step::new(u32::MAX, LONGEST).bytes(log)
-}
-
-/// Short entries of these kinds by turns, of so many bytes; in a timed log, which has no entry of one, of fifteen more
-/// where they would be one.
-pub fn short_entries(log: Log, length: usize, kinds: &[u8]) -> Vec<u8> {
-    let mut kinds = kinds.iter().copied().cycle();
-    if log == Log::Old {
-        return kinds.take(length).collect();
-    }
-    let length = if length == 1 { 16 } else { length };
-    let mut bytes = Vec::new();
-    if length % 2 == 1 {
-        bytes.extend([0x80, 1, 2]);
-    }
-    while bytes.len() < length {
-        bytes.extend([50, kinds.next().expect("no end")]);
-    }
-    bytes
-}
-
 /// All long inputs, from the seed.
 pub fn long_traces(seed: u64) -> Vec<Input> {
     let mut rng = Rng::new(seed);
     let mut inputs = Vec::new();
     for (module, ..) in HEAD_MAKERS {
-        for shift in 0..longest_of(plain_head(module).log()).len() {
+        for shift in 0..LONGEST.bytes().len() {
             let name = format!("{}, the longest entries, shifted by {}", module, shift);
             inputs.push(Input::new(name, shifted(module, shift)));
         }
@@ -102,8 +78,7 @@ fn plain_head(module: &str) -> Head {
     let (switches, channels, all_ones) = match module {
         "V260" => (HeadSwitches::V260([0x0030, 0xFFFF, 1, 5]), 16, 0xFF_FFFF),
         "V560" => (HeadSwitches::V560([0x06]), 16, u32::MAX),
-        "V830" => (HeadSwitches::V830(Log::Old, [21, 50]), 32, u32::MAX),
-        _ => (HeadSwitches::V830(Log::Timed, [21, 50]), 32, u32::MAX),
+        _ => (HeadSwitches::V830([21, 50]), 32, u32::MAX),
     };
     let mut counts = vec![all_ones; channels];
     counts[5] = all_ones / 2 - 100;
@@ -111,16 +86,15 @@ fn plain_head(module: &str) -> Head {
     Head { switches, counts }
 }
 
-/// Short entries, then the longest ones over the edge, then pulses.
+/// One-byte entries, then the longest ones over the edge, then pulses.
 fn shifted(module: &str, shift: usize) -> Vec<u8> {
-    let head = plain_head(module);
-    let mut bytes = head.bytes();
-    bytes.extend(short_entries(head.log(), shift, &[2, 4]));
+    let mut bytes = plain_head(module).bytes();
+    bytes.extend([2, 4].iter().cycle().take(shift));
     while bytes.len() < EDGE + 100 {
-        bytes.extend(longest_of(head.log()));
+        bytes.extend(LONGEST.bytes());
     }
     for channel in 0..16 {
-        bytes.extend(Step::old(Call::Pulses(channel, 150)).bytes(head.log()));
+        bytes.extend(Call::Pulses(channel, 150).bytes());
     }
     bytes
 }
@@ -136,8 +110,8 @@ fn joined_runs(rng: &mut Rng, module: &str, length: usize) -> Vec<u8> {
 /// Adds the calls of many random runs, one behind the other, up to so many bytes and a few more.
 pub fn add_runs(rng: &mut Rng, head: &Head, length: usize, bytes: &mut Vec<u8>) {
     while bytes.len() < length {
-        for step in make_steps(rng, head, 100) {
-            bytes.extend(step.bytes(head.log()));
+        for call in make_calls(rng, head, 100) {
+            bytes.extend(call.bytes());
         }
     }
 }
@@ -145,39 +119,28 @@ pub fn add_runs(rng: &mut Rng, head: &Head, length: usize, bytes: &mut Vec<u8>) 
 #[cfg(test)]
 mod tests {
     use super::*;
-    use crate::listings::trace::timed_from;
+    use crate::listings::trace::entries_from;
     use crate::listings::trace_head::read_head;
-
-    #[test]
-    fn short_entries_are_of_their_length_and_good() {
-        for length in 0..20 {
-            assert_eq!(short_entries(Log::Old, length, &[2, 4]).len(), length);
-            let bytes = short_entries(Log::Timed, length, &[2, 4]);
-            assert_eq!(bytes.len(), if length == 1 { 16 } else { length });
-            assert_eq!(timed_from(Log::Timed, &bytes, 0).1, None);
-        }
-    }
 
     #[test]
     fn every_byte_of_an_entry_meets_the_edge() {
         for (module, ..) in HEAD_MAKERS {
-            let length = longest_of(plain_head(module).log()).len();
-            let mut met = vec![false; length];
-            for shift in 0..length {
+            let mut met = [false; 10];
+            for shift in 0..10 {
                 let bytes = shifted(module, shift);
-                let (head, place) = read_head(&bytes).expect("a good head");
+                let (_, place) = read_head(&bytes).expect("a good head");
                 // The edge of the whole input, and that of the log by itself.
                 for edge in [EDGE, place + EDGE] {
-                    let (entries, _) = timed_from(head.log(), &bytes, place);
-                    let at = entries.iter().rposition(|timed| timed.entry.place <= edge);
-                    let begins = entries[at.expect("entries before the edge")].entry.place;
+                    let (entries, _) = entries_from(&bytes, place);
+                    let at = entries.iter().rposition(|entry| entry.place <= edge);
+                    let begins = entries[at.expect("entries before the edge")].place;
                     if edge == EDGE {
                         met[edge - begins] = true;
                     }
-                    assert!(edge - begins < length);
+                    assert!(edge - begins < 10);
                 }
             }
-            assert_eq!(met, vec![true; length], "{}", module);
+            assert_eq!(met, [true; 10], "{}", module);
         }
     }
 }

@@ -4,21 +4,16 @@ use crate::inputs::broken_heads::broken_head;
 use crate::inputs::input::Input;
 use crate::inputs::logs::entries::{edge_entry, high_kind_entry, odd_entry};
 use crate::inputs::logs::random::damage;
-use crate::inputs::numbers::{any_value, odd_number, padded};
+use crate::inputs::numbers::any_value;
 use crate::inputs::rng::Rng;
 use crate::inputs::trace::calls::{arming, next_calls, MOST_PULSES, PROFILES};
-use crate::inputs::trace::calls_busy::timed_profiles;
 use crate::inputs::trace::calls_v830::{next_calls_830, setting_up, PROFILES_830};
 use crate::inputs::trace::heads::{head_260, head_560};
-use crate::inputs::trace::heads_v830::{head_830, head_831};
-use crate::inputs::trace::times::any_time;
+use crate::inputs::trace::heads_v830::head_830;
 use crate::listings::own_module::{own_start, Own};
-use crate::listings::trace::steps_from;
-use crate::listings::trace_head::{input_of_steps, read_head, Head};
-use crate::model::module::{Call, Module, Step};
-use crate::model::scaler::Scaler;
-use crate::model::timed_log::{Log, OLD_STEPS};
-use crate::model::v830::V830;
+use crate::listings::trace::entries_from;
+use crate::listings::trace_head::{read_head, Head};
+use crate::model::module::{Call, Module};
 use crate::model::write_log::shortest;
 
 /// The fewest and the most entries that a whole run has, but for the few that belong together.
@@ -32,11 +27,10 @@ const WHOLE_TO_BROKEN: usize = 4;
 type HeadMaker = fn(&mut Rng) -> Head;
 
 /// The name of a module, its maker of heads, and for each two runs asked for how many are made.
-pub const HEAD_MAKERS: [(&str, HeadMaker, usize); 4] = [
+pub const HEAD_MAKERS: [(&str, HeadMaker, usize); 3] = [
     ("V260", head_260, 2),
     ("V560", head_560, 2),
     ("V830", head_830, 3),
-    ("V830, timed", head_831, 2),
 ];
 
 /// Module numbers of no module, some of them a module's once cut to fewer bits.
@@ -54,7 +48,7 @@ pub const OTHER_MODULES: [u32; 22] = [
     62,
     820,
     829,
-    832,
+    831,
     8_300,
     2_600,
     5_600,
@@ -95,65 +89,51 @@ fn module_traces(rng: &mut Rng, name: &str, make_head: HeadMaker, count: usize) 
 
 /// A head and a log of at least so many good entries.
 pub fn whole_run(rng: &mut Rng, head: &Head, entries: usize) -> Vec<u8> {
-    let steps = make_steps(rng, head, entries);
-    input_of_steps(head, &steps, &[])
+    let mut bytes = head.bytes();
+    for call in make_calls(rng, head, entries) {
+        bytes.extend(call.bytes());
+    }
+    bytes
 }
 
-/// At least so many steps of the module that a head describes, by the log that stands behind it.
-pub fn make_steps(rng: &mut Rng, head: &Head, entries: usize) -> Vec<Step> {
+/// At least so many calls of the module that a head describes.
+pub fn make_calls(rng: &mut Rng, head: &Head, entries: usize) -> Vec<Call> {
     match own_start(head).1 {
         Own::Scaler(module) => {
             let profile = rng.pick_by_share(&PROFILES);
-            let next = |rng: &mut Rng, module: &Box<dyn Scaler>, first: bool| match first
-                && !rng.one_in(5)
-            {
-                true => arming(rng, module.as_ref()),
-                false => next_calls(rng, profile, module.as_ref()),
-            };
-            steps_of(rng, module, entries, next, |_, _, _| OLD_STEPS)
+            calls_of(module, entries, |module, first| {
+                match first && !rng.one_in(5) {
+                    true => arming(rng, module.as_ref()),
+                    false => next_calls(rng, profile, module.as_ref()),
+                }
+            })
         }
         Own::V830(module) => {
-            let (profile, time): (_, Timer) = match head.log() {
-                Log::Old => (rng.pick_by_share(&PROFILES_830), |_, _, _| OLD_STEPS),
-                Log::Timed => (rng.pick_by_share(&timed_profiles()), time_of),
-            };
-            let next = |rng: &mut Rng, module: &V830, first: bool| match first
-                && profile.sets_up
-                && !rng.one_in(5)
-            {
-                true => setting_up(rng, module),
-                false => next_calls_830(rng, profile, module),
-            };
-            steps_of(rng, *module, entries, next, time)
+            let profile = rng.pick_by_share(&PROFILES_830);
+            calls_of(*module, entries, |module, first| {
+                match first && profile.sets_up && !rng.one_in(5) {
+                    true => setting_up(rng, module),
+                    false => next_calls_830(rng, profile, module),
+                }
+            })
         }
     }
 }
 
-/// A way of making the time of a call of a V830.
-type Timer = fn(&mut Rng, &V830, &Call) -> u32;
-
-/// A time with an eye on the steps that a V830 holds.
-fn time_of(rng: &mut Rng, module: &V830, call: &Call) -> u32 {
-    any_time(rng, module.record.steps, call)
-}
-
-/// At least so many steps of a module, each few of them made with an eye on what it then holds.
-fn steps_of<M: Module>(
-    rng: &mut Rng,
+/// At least so many calls of a module, each few of them made with an eye on what it then holds.
+fn calls_of<M: Module>(
     mut module: M,
     entries: usize,
-    next: impl Fn(&mut Rng, &M, bool) -> Vec<Call>,
-    time: impl Fn(&mut Rng, &M, &Call) -> u32,
-) -> Vec<Step> {
-    let mut steps = Vec::new();
-    while steps.len() < entries {
-        for call in next(rng, &module, steps.is_empty()) {
-            let step = Step::new(time(rng, &module, &call), call);
-            module.step(step);
-            steps.push(step);
+    mut next: impl FnMut(&M, bool) -> Vec<Call>,
+) -> Vec<Call> {
+    let mut calls = Vec::new();
+    while calls.len() < entries {
+        for call in next(&module, calls.is_empty()) {
+            module.call(call);
+            calls.push(call);
         }
     }
-    steps
+    calls
 }
 
 /// A way of making a broken input of a module with this head.
@@ -205,8 +185,8 @@ pub fn is_tame(input: &[u8]) -> bool {
         Err(_) => return true,
         Ok(head) => head,
     };
-    let (steps, _) = steps_from(&head, input, place);
-    steps.iter().all(|step| match step.call {
+    let (entries, _) = entries_from(input, place);
+    entries.iter().all(|entry| match Call::of(entry) {
         Call::Pulses(channel, pulses) => {
             pulses <= MOST_PULSES || channel as usize >= head.counts.len()
         }
@@ -217,23 +197,8 @@ pub fn is_tame(input: &[u8]) -> bool {
 /// The bytes of a short good log.
 fn short_log(rng: &mut Rng, head: &Head) -> Vec<u8> {
     let entries = rng.below(40);
-    let steps = make_steps(rng, head, entries);
-    steps
-        .iter()
-        .flat_map(|step| step.bytes(head.log()))
-        .collect()
-}
-
-/// The bytes of a time in front of a faulty entry, where the log has times: at times it is, or may be, faulty itself.
-fn time_bytes(rng: &mut Rng, head: &Head) -> Vec<u8> {
-    match head.log() {
-        Log::Old => Vec::new(),
-        Log::Timed => match rng.below(4) {
-            0 => odd_number(rng),
-            1 => padded(any_value(rng), rng.between(1, 2)),
-            _ => shortest(any_value(rng)),
-        },
-    }
+    let calls = make_calls(rng, head, entries);
+    calls.iter().flat_map(Call::bytes).collect()
 }
 
 /// A head with one or two broken numbers, or cut, and at times a log behind it.
@@ -255,7 +220,7 @@ fn cut_head(rng: &mut Rng, head: &Head) -> Vec<u8> {
 /// A head that names another module, and a log behind it.
 fn other_module(rng: &mut Rng, head: &Head) -> Vec<u8> {
     let module = match any_value(rng) {
-        260 | 560 | 830 | 831 => 0,
+        260 | 560 | 830 => 0,
         module if rng.one_in(2) => module,
         _ => rng.pick(&OTHER_MODULES),
     };
@@ -267,8 +232,7 @@ fn other_module(rng: &mut Rng, head: &Head) -> Vec<u8> {
 fn cut_log(rng: &mut Rng, head: &Head) -> Vec<u8> {
     let mut bytes = head.bytes();
     bytes.extend(short_log(rng, head));
-    let call = Call::Write(0x06, 16, rng.between(128, 65_535) as u32);
-    let last = Step::new(OLD_STEPS << rng.below(20), call).bytes(head.log());
+    let last = Call::Write(0x06, 16, rng.between(128, 65_535) as u32).bytes();
     bytes.extend(&last[..rng.between(1, last.len() - 1)]);
     bytes
 }
@@ -276,9 +240,8 @@ fn cut_log(rng: &mut Rng, head: &Head) -> Vec<u8> {
 /// Good entries, one that is or may be faulty, and good ones again.
 fn faulty_entry(rng: &mut Rng, head: &Head, faulty: fn(&mut Rng) -> Vec<u8>) -> Vec<u8> {
     let before = short_log(rng, head);
-    let time = time_bytes(rng, head);
     let entry = faulty(rng);
-    [head.bytes(), before, time, entry, short_log(rng, head)].concat()
+    [head.bytes(), before, entry, short_log(rng, head)].concat()
 }
 
 /// A log with bytes changed, inserted and removed.
@@ -307,7 +270,7 @@ mod tests {
     fn a_seed_repeats_its_runs_and_another_differs() {
         assert_eq!(make_traces(7, 20), make_traces(7, 20));
         assert_ne!(make_traces(7, 20), make_traces(8, 20));
-        assert_eq!(make_traces(7, 20).len(), 3 * (20 + 5) + 30 + 7);
+        assert_eq!(make_traces(7, 20).len(), 2 * (20 + 5) + 30 + 7);
     }
 
     #[test]
@@ -315,9 +278,9 @@ mod tests {
         for input in make_traces(7, 40) {
             assert!(is_tame(&input.bytes), "{}", input.name);
             if input.name.contains(" run ") {
-                let (head, place) = read_head(&input.bytes).expect("a good head");
-                let (steps, fault) = steps_from(&head, &input.bytes, place);
-                assert!((60..=160).contains(&steps.len()), "{}", input.name);
+                let (_, place) = read_head(&input.bytes).expect("a good head");
+                let (entries, fault) = entries_from(&input.bytes, place);
+                assert!((60..=160).contains(&entries.len()), "{}", input.name);
                 assert_eq!(fault, None);
             }
         }

@@ -9,13 +9,13 @@ numbered-requires c κs = search rules
 one-or-zero-requires : tie.Need-one-or-zero-requires
 one-or-zero-requires c κs = search rules
 
-cast-t9 : tie.Need-overflow-cast-t9
-cast-t9 c = search rules
+cast-t8 : tie.Need-overflow-cast-t8
+cast-t8 c = search rules
 
 returns : tie.Need-returns
 returns c =
-    let z = c.before.before.before.before.before in
+    let z = c.before.before.before.before in
     rw (z.before.numbered.ensures, z.one_or_zero.ensures)
 
 pub first-words-830-spec : {M : Type 1} → statement M
-first-words-830-spec = tie.close (tie.spec numbered-requires one-or-zero-requires cast-t9 returns)
+first-words-830-spec = tie.close (tie.spec numbered-requires one-or-zero-requires cast-t8 returns)

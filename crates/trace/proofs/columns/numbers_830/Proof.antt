@@ -43,8 +43,8 @@ returns c =
     let first : List ℕ = first_of830 a.t.answer a.t.v830 in
     let counts : List ℕ = a.t.v830.counts in
     q.put-words2.ensures.1
-    ∙ ap (λ (o : List ℕ). put o 12 counts) (p.put-words.ensures.1 ∙ ap (put (a.entry ∷ replicate 43 0) 1) f.first-words-830.ensures)
-    ∙ behind a.entry (replicate 43 0) first counts (omega (arith, counted f.before.before))
+    ∙ ap (λ (o : List ℕ). put o 11 counts) (p.put-words.ensures.1 ∙ ap (put (a.entry ∷ replicate 42 0) 1) f.first-words-830.ensures)
+    ∙ behind a.entry (replicate 42 0) first counts (omega (arith, counted f.before.before))
 
 pub numbers-830-spec : {M : Type 1} → statement M
 numbers-830-spec =

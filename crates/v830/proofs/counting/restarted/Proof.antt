@@ -6,14 +6,11 @@ use Rattle.v830.proofs.counting.restarted.Tie as tie
 with-triggers-requires : tie.Need-with-triggers-requires
 with-triggers-requires c κs = search rules
 
-with-steps-requires : tie.Need-with-steps-requires
-with-steps-requires c κs = search rules
-
 emptied-requires : tie.Need-emptied-requires
 emptied-requires c κs = search rules
 
 returns : tie.Need-returns
-returns c = rw (c.emptied.ensures, c.before.with-steps.ensures, c.before.before.with-triggers.ensures)
+returns c = rw (c.emptied.ensures, c.before.with-triggers.ensures)
 
 pub restarted-spec : {M : Type 1} → statement M
-restarted-spec = tie.close (tie.spec with-triggers-requires with-steps-requires emptied-requires returns)
+restarted-spec = tie.close (tie.spec with-triggers-requires emptied-requires returns)

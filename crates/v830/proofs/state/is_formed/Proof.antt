@@ -1,5 +1,5 @@
 -- Each test is one part of the definition. Assumes nothing.
-use borrow.Author.Tests.{lt-leb, le-leb, eq-eqb, ne_eqb}
+use borrow.Author.Tests.{lt-leb, le-leb}
 use Rattle.count.proofs.Tests.{holds, fails}
 use Rattle.v830.specs.State.{formed}
 use borrow.Author.Rules.{rules}
@@ -29,11 +29,7 @@ mode-requires c κs = search rules
 
 returns-4 : tie.Need-returns-4
 unfolding formed
-returns-4 c = rw (le-leb _ _ c.before.before.before.before.before.before.before.if1.false, holds c.before.before.before.before.before.fits2.ensures c.before.before.before.before.if2.false, holds c.before.before.before.is-explained.ensures c.before.before.if3.false, eq-eqb _ _ (rw c.before.mode.ensures at c.if4.true))
-
-returns-5 : tie.Need-returns-5
-unfolding formed
-returns-5 c = rw (le-leb _ _ c.before.before.before.before.before.before.before.before.before.if1.false, holds c.before.before.before.before.before.before.before.fits2.ensures c.before.before.before.before.before.before.if2.false, holds c.before.before.before.before.before.is-explained.ensures c.before.before.before.before.if3.false, ne_eqb _ _ (rw c.before.before.before.mode.ensures at c.before.before.if4.false))
+returns-4 c = rw (le-leb _ _ c.before.before.before.before.before.before.if1.false, holds c.before.before.before.before.fits2.ensures c.before.before.before.if2.false, holds c.before.before.is-explained.ensures c.before.if3.false, ← c.mode.ensures)
 
 pub is-formed-spec : {M : Type 1} → statement M
 is-formed-spec =
@@ -45,5 +41,4 @@ is-formed-spec =
     is-explained-requires
     returns-3
     mode-requires
-    returns-4
-    returns-5)
+    returns-4)

@@ -1,4 +1,4 @@
--- 7, 8, 13 and 9, each a test of the definition, else the event. Assumes nothing.
+-- 7, 8 and 9, each a test of the definition, else the event. Assumes nothing.
 use mathlib.Core.Path.{◌≡◌, refl, sym, ap, ◌∙◌}
 use mathlib.Core.Bool.{true}
 use Prim.Native.Nat.{◌-◌}
@@ -26,7 +26,7 @@ some : (c : tie.Else2) → ltb 0 (event_length (settings c.before.before.before.
 some c = lt-ltb 0 (event_length (settings c.before.before.before.before.before.before.before.args.s)) (omega (arith, event-is c.before.before, c.if2.false))
 
 -- the free words as the code has them
-room-is : (c : tie.After-free) → c.before.before.before.before.before.before.before.before.before.before.before.before.args.s.store.capacity.0 - c.before.before.before.before.before.before.before.before.before.before.before.before.args.s.store.stored.0 ≡ c.free.result.0
+room-is : (c : tie.After-free) → c.before.before.before.before.before.before.before.before.before.args.s.store.capacity.0 - c.before.before.before.before.before.before.before.before.before.args.s.store.stored.0 ≡ c.free.result.0
 room-is c = sym (ap (λ (w : Words). w.0) c.free.ensures)
 
 mode-requires : tie.Need-mode-requires
@@ -50,33 +50,27 @@ neglected-requires-2 c κs = search rules
 returns-2 : tie.Need-returns-2
 returns-2 c = rw (random c.before.before.before.before.before, event-is c.before.before.before ∙ c.before.if2.true) (c.neglected2.ensures, refl)
 
+free-requires : tie.Need-free-requires
+free-requires c κs = search rules
+
 neglected-requires-3 : tie.Need-neglected-requires-3
 neglected-requires-3 c κs = search rules
 
 returns-3 : tie.Need-returns-3
-returns-3 c = rw (random c.before.before.before.before.before.before.before.before, some c.before.before.before.before, lt-leb 100 _ c.before.if3.true) (c.neglected3.ensures, refl)
-
-free-requires : tie.Need-free-requires
-free-requires c κs = search rules
-
-neglected-requires-4 : tie.Need-neglected-requires-4
-neglected-requires-4 c κs = search rules
-
-returns-4 : tie.Need-returns-4
-returns-4 c =
-    let s = c.before.before.before.before.before.before.before.before.before.before.before.before.before.before.before.before.args.s in
-    rw (random c.before.before.before.before.before.before.before.before.before.before.before.before.before, some c.before.before.before.before.before.before.before.before.before, le-leb 100 _ c.before.before.before.before.before.before.if3.false, lt-leb (event_length (settings s)) (s.store.capacity.0 - s.store.stored.0) (rw (event-is c.before.before.before.before.before.before.before.before.before.before.before, room-is c.before.before.before.before) c.before.if4.true)) (c.neglected4.ensures, refl)
+returns-3 c =
+    let s = c.before.before.before.before.before.before.before.before.before.before.before.before.before.args.s in
+    rw (random c.before.before.before.before.before.before.before.before.before.before, some c.before.before.before.before.before.before, lt-leb (event_length (settings s)) (s.store.capacity.0 - s.store.stored.0) (rw (event-is c.before.before.before.before.before.before.before.before, room-is c.before.before.before.before) c.before.if3.true)) (c.neglected3.ensures, refl)
 
 accept-requires : tie.Need-accept-requires
-accept-requires c κs = (c.before.before.before.before.before.before.before.before.before.before.before.before.before.before.before.before.requires, omega (arith, event-is c.before.before.before.before.before.before.before.before.before.before.before, c.before.before.before.before.before.before.before.before.before.if2.false))
+accept-requires c κs = (c.before.before.before.before.before.before.before.before.before.before.before.before.before.requires, omega (arith, event-is c.before.before.before.before.before.before.before.before, c.before.before.before.before.before.before.if2.false))
 
 same_length : tie.Need-same-length
 same_length c = search rules
 
-returns-5 : tie.Need-returns-5
-returns-5 c =
-    let s = c.before.before.before.before.before.before.before.before.before.before.before.before.before.before.before.before.before.before.before.args.s in
-    rw (random c.before.before.before.before.before.before.before.before.before.before.before.before.before.before.before.before, some c.before.before.before.before.before.before.before.before.before.before.before.before, le-leb 100 _ c.before.before.before.before.before.before.before.before.before.if3.false, le-leb (event_length (settings s)) (s.store.capacity.0 - s.store.stored.0) (rw (event-is c.before.before.before.before.before.before.before.before.before.before.before.before.before.before, room-is c.before.before.before.before.before.before.before) c.before.before.before.before.if4.false)) c.before.before.accept.ensures
+returns-4 : tie.Need-returns-4
+returns-4 c =
+    let s = c.before.before.before.before.before.before.before.before.before.before.before.before.before.before.before.before.args.s in
+    rw (random c.before.before.before.before.before.before.before.before.before.before.before.before.before, some c.before.before.before.before.before.before.before.before.before, le-leb (event_length (settings s)) (s.store.capacity.0 - s.store.stored.0) (rw (event-is c.before.before.before.before.before.before.before.before.before.before.before, room-is c.before.before.before.before.before.before.before) c.before.before.before.before.if3.false)) c.before.before.accept.ensures
 
 pub triggered-spec : {M : Type 1} → statement M
 triggered-spec =
@@ -89,11 +83,9 @@ triggered-spec =
     event-length-requires
     neglected-requires-2
     returns-2
+    free-requires
     neglected-requires-3
     returns-3
-    free-requires
-    neglected-requires-4
-    returns-4
     accept-requires
     same_length
-    returns-5)
+    returns-4)
