@@ -1,3 +1,5 @@
+#![tactic(auto)]
+
 // The bench log: numbers in groups of seven bits, and entries of eight kinds. Knows no module.
 ghost use Rattle.std.specs.Prelude.{◌≡◌};
 ghost use Rattle.benchlog.specs.Faults.{fault_number};
@@ -10,7 +12,7 @@ pub use entries::{read_argument, read_entry};
 pub use numbers::read_number;
 
 // Why a log is refused.
-#[derive(Drop)]
+#[derive(Clone, Copy)]
 pub enum Fault {
     Ends,
     NotShortest,
@@ -20,14 +22,14 @@ pub enum Fault {
 }
 
 // What reading a number gives: it and the place after it, or the fault and the place that was given.
-#[derive(Drop)]
+#[derive(Clone, Copy)]
 pub enum Numeral {
     Value(u32, usize),
     Refused(Fault, usize),
 }
 
 // An entry. A veto line is on or off; a read has offset and width, a write data besides.
-#[derive(Drop)]
+#[derive(Clone, Copy)]
 pub enum Entry {
     Pulse(u32, u32),
     Veto(bool),
@@ -40,14 +42,14 @@ pub enum Entry {
 }
 
 // What reading an entry gives: it and the place after it, or the fault and the place that was given.
-#[derive(Drop)]
+#[derive(Clone, Copy)]
 pub enum Reading {
     Entry(Entry, usize),
     Refused(Fault, usize),
 }
 
 // A reading as numbers: answer (0 when done), kind, the arguments in the log's order, and the place.
-#[derive(Drop)]
+#[derive(Clone, Copy)]
 pub struct Fields {
     pub answer: u32,
     pub kind: u32,

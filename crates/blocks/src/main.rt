@@ -1,3 +1,5 @@
+#![tactic(auto)]
+
 // Lists the events of a capture of a V830's memory.
 ghost use Rattle.std.specs.Prelude.{◌≡◌, ◌-◌, ◌*◌, ◌≤◌, length, take};
 ghost use Rattle.blocks.specs.Words.{word_of, words_from, whole_words, words_in, numbers_of};

@@ -19,14 +19,14 @@ pub const WRITE: u32 = 2;
 pub const READ_WRITE: u32 = 3;
 
 // A row: the first and the last offset, of which every fourth is meant, the widths and the directions.
-#[derive(Drop)]
+#[derive(Clone, Copy)]
 pub struct Row(pub u32, pub u32, pub u32, pub u32);
 
 // A row that no offset reaches, to fill a table up to its sixteen.
 pub const UNUSED: Row = Row(1, 0, 0, 0);
 
 // What an access reaches: a row of the table and a place in it, or why nothing.
-#[derive(Drop)]
+#[derive(Clone, Copy)]
 pub enum Register {
     At(usize, u32),
     Refused(Answer),

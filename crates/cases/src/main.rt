@@ -1,3 +1,5 @@
+#![tactic(auto)]
+
 // Runs the marked cases of document 01 on the compiled modules, and prints a line a case.
 use benchlog::Entry;
 use marked::marked;
@@ -9,18 +11,18 @@ mod marked;
 mod running;
 
 // A step: an entry of the log for the module, or bytes that begin with a number for the log reader.
-#[derive(Drop)]
+#[derive(Clone, Copy)]
 pub(crate) enum Step {
     Gives(Entry),
     Reads(u8, u8, u8, u8, u8),
 }
 
 // A step, with the number and the value of the answer that is expected.
-#[derive(Drop)]
+#[derive(Clone, Copy)]
 pub(crate) struct Line(pub(crate) Step, pub(crate) u32, pub(crate) u32);
 
 // A case: its line in document 01, the module, the values of its start, so many steps, and the pulses admitted.
-#[derive(Drop)]
+#[derive(Clone, Copy)]
 pub(crate) struct Case {
     pub(crate) line: u32,
     pub(crate) which: Which,

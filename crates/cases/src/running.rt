@@ -11,14 +11,14 @@ use bus::{Answer, Reply};
 use modules::{Held, Which};
 
 // The module, and the pulses admitted to it.
-#[derive(Drop)]
+#[derive(Clone, Copy)]
 struct Bench {
     held: Held,
     pulses: u32,
 }
 
 // What a step gives: the answer, and the bench after it.
-#[derive(Drop)]
+#[derive(Clone, Copy)]
 struct Turned {
     reply: Reply,
     bench: Bench,

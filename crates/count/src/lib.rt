@@ -1,16 +1,18 @@
+#![tactic(auto)]
+
 // One counter of w bits: what a tick does to it, and when a watched bit rises.
 ghost use Rattle.std.specs.Prelude.{◌≡◌, map};
 ghost use Rattle.count.specs.Counter.{bits_of, next, tick_of, rises};
 
 // How wide a counter is: 24 bits in the V260, 32 in the V560 and the V830.
-#[derive(Drop)]
+#[derive(Clone, Copy)]
 pub enum Width {
     Bits24,
     Bits32,
 }
 
 // A counter after one tick, and whether it went from all ones to 0.
-#[derive(Drop)]
+#[derive(Clone, Copy)]
 pub struct Ticked {
     pub value: u32,
     pub carry: bool,

@@ -1,3 +1,5 @@
+#![tactic(auto)]
+
 // Lists the entries of a bench log.
 ghost use Rattle.std.specs.Prelude.{◌≤◌, length};
 

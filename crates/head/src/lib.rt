@@ -1,3 +1,5 @@
+#![tactic(auto)]
+
 // A head of numbers: log numbers one behind the other, each with a limit of its own. Knows no module.
 ghost use Rattle.std.specs.Prelude.{◌≡◌, ◌≤◌, length, take};
 ghost use Rattle.head.specs.Heads.{head_of, refused_head, is_cut, Begun};
@@ -7,7 +9,7 @@ use stdio::Listing;
 
 // A head: 0 or the fault's number, its values, and the place after its last number. A refused head
 // has the fault's number, and 0 for all else.
-#[derive(Drop)]
+#[derive(Clone, Copy)]
 pub struct Head {
     pub answer: u32,
     pub values: [u32; 40],

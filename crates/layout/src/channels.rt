@@ -3,7 +3,7 @@ ghost use Rattle.std.specs.Prelude.{◌≡◌, ◌∷◌, ◌<◌};
 ghost use Rattle.layout.specs.Length.{enabled_channels};
 
 // The next enabled channel, and the mask of those after it.
-#[derive(Drop)]
+#[derive(Clone, Copy)]
 pub struct Next {
     pub channel: u32,
     pub left: u32,

@@ -1,3 +1,5 @@
+#![tactic(auto)]
+
 // Event blocks of the V830: one layout, written and read. Knows no module.
 ghost use Rattle.std.specs.Prelude.{◌≡◌, ◌≤◌};
 ghost use Rattle.std.specs.Int.Count.{ones_in};
@@ -12,15 +14,15 @@ pub use reader::read_event;
 pub use writer::write_event;
 
 // A number of words.
-#[derive(Drop)]
+#[derive(Clone, Copy)]
 pub struct Words(pub u32);
 
 // A number of events.
-#[derive(Drop)]
+#[derive(Clone, Copy)]
 pub struct Events(pub u32);
 
 // What fixes the layout: whether events have a header, whether data are short, and Channel Enable.
-#[derive(Drop)]
+#[derive(Clone, Copy)]
 pub struct Settings {
     pub header: bool,
     pub short: bool,
@@ -28,7 +30,7 @@ pub struct Settings {
 }
 
 // An event: GEO, trigger source, trigger number, and a count for each channel.
-#[derive(Drop)]
+#[derive(Clone, Copy)]
 pub struct Event {
     pub geo: u32,
     pub source: u32,
@@ -37,7 +39,7 @@ pub struct Event {
 }
 
 // What reader and writer answer: done, with the event's length, or why they refuse.
-#[derive(Drop)]
+#[derive(Clone, Copy)]
 pub enum Answer {
     Done(Words),
     NoWords,
@@ -53,21 +55,21 @@ pub enum Answer {
 }
 
 // An answer as document 01 has it: its number, and its value, which is the length.
-#[derive(Drop)]
+#[derive(Clone, Copy)]
 pub struct Reply {
     pub number: u32,
     pub value: u32,
 }
 
 // What reading a block gives: the answer, and the event, all 0 where it is refused.
-#[derive(Drop)]
+#[derive(Clone, Copy)]
 pub struct Reading {
     pub answer: Answer,
     pub event: Event,
 }
 
 // How many events the words stored are; none can be told where an event would have no words.
-#[derive(Drop)]
+#[derive(Clone, Copy)]
 pub enum Stored {
     Number(Events),
     NoWords,

@@ -1,3 +1,5 @@
+#![tactic(auto)]
+
 // Reads many small logs in one run and shows what the log reader answers at each place.
 ghost use Rattle.std.specs.Prelude.{◌≡◌, ◌≤◌, length};
 
@@ -6,7 +8,7 @@ use stdio::Listing;
 
 // A numeral as numbers: 0, its value and the place after it, or the refusal's number, 0 and the place
 // that was given.
-#[derive(Drop)]
+#[derive(Clone, Copy)]
 struct Number {
     answer: u32,
     value: u32,
@@ -14,7 +16,7 @@ struct Number {
 }
 
 // A case: 0, or a refusal's number; its start, and where its bytes stand.
-#[derive(Drop)]
+#[derive(Clone, Copy)]
 struct Case {
     answer: u32,
     start: usize,

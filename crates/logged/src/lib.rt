@@ -1,3 +1,5 @@
+#![tactic(auto)]
+
 // What an entry of the bench log asks of a V830, and the access that it makes of any module.
 ghost use Rattle.std.specs.Prelude.{◌≡◌};
 ghost use Rattle.logged.specs.Entries.{access_for, call830_of};

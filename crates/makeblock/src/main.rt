@@ -1,3 +1,5 @@
+#![tactic(auto)]
+
 // Writes one event of a V830 to lent words and shows them.
 ghost use Rattle.std.specs.Prelude.{◌≡◌, ◌≤◌, length};
 ghost use Rattle.head.specs.Heads.{up_from};

@@ -1,3 +1,5 @@
+#![tactic(auto)]
+
 // The multi-event buffer: a lent stretch of words, used round and round, and what is known of it.
 ghost use Rattle.std.specs.Prelude.{◌≡◌, ◌%◌, ◌<◌, ◌≤◌, length, get_or};
 ghost use Rattle.meb.specs.Ring.{lent, behind, put_round};
@@ -6,7 +8,7 @@ ghost use Rattle.meb.specs.Stores.{empty_of, emptied, fits, free, handed_of, put
 use layout::Words;
 
 // The event memory as the module knows it: its length, the place of the oldest word, and the words stored.
-#[derive(Drop)]
+#[derive(Clone, Copy)]
 pub struct Store {
     pub capacity: Words,
     pub first: u32,
@@ -15,7 +17,7 @@ pub struct Store {
 
 // What is handed out: nothing, since nothing is stored, or the oldest word, with what is known of the memory without
 // it.
-#[derive(Drop)]
+#[derive(Clone, Copy)]
 pub enum Handed {
     Nothing,
     Word(u32, Store),

@@ -1,3 +1,5 @@
+#![tactic(auto)]
+
 // The three modules as one: whichever a head names, started, and what an entry of the log does to it.
 ghost use Rattle.std.specs.Prelude.{◌≡◌, ◌+◌, ◌≤◌, length, take, drop};
 ghost use Rattle.meb.specs.Ring.{lent};
@@ -16,7 +18,7 @@ use v560::V560;
 use v830::V830;
 
 // Which of the three it is.
-#[derive(Drop)]
+#[derive(Clone, Copy)]
 pub enum Which {
     V260,
     V560,
@@ -24,7 +26,7 @@ pub enum Which {
 }
 
 // A module, with the answer of its last call and its interrupter; the other two stand still.
-#[derive(Drop)]
+#[derive(Clone, Copy)]
 pub struct Held {
     pub which: Which,
     pub answer: Answer,

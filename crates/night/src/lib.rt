@@ -1,3 +1,5 @@
+#![tactic(auto)]
+
 // A night on a V830: what the entries of a bench log make of it, and their listing.
 ghost use Rattle.std.specs.Prelude.{◌≡◌, ◌+◌, ◌≤◌, true, not, ◌&&◌, [], length, ◌==◌};
 ghost use Rattle.benchlog.specs.declared.Fault.TheVariants.{Ends};
@@ -17,7 +19,7 @@ use bus::Answer;
 use v830::V830;
 
 // Where a replay stands: the module, the entries taken, and the log's place of the next byte.
-#[derive(Drop)]
+#[derive(Clone, Copy)]
 pub struct Night {
     pub v830: V830,
     pub entries: u64,
@@ -25,7 +27,7 @@ pub struct Night {
 }
 
 // An entry taken: the night after it, and the three numbers of its line.
-#[derive(Drop)]
+#[derive(Clone, Copy)]
 pub struct Taken {
     pub night: Night,
     pub entry: u64,
@@ -35,7 +37,7 @@ pub struct Taken {
 
 // What comes next in a listing: further lines, or bytes of the log first; nothing, at the log's end or behind the line
 // of a fault, with its number; or why nothing of it is run.
-#[derive(Drop)]
+#[derive(Clone, Copy)]
 pub enum Next {
     Lines,
     Bytes,
@@ -45,7 +47,7 @@ pub enum Next {
 }
 
 // A part of a listing: the night after it, the bytes used of the log, those put out, and what is next.
-#[derive(Drop)]
+#[derive(Clone, Copy)]
 pub struct Part {
     pub night: Night,
     pub used: usize,

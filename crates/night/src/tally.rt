@@ -5,7 +5,7 @@ ghost use Rattle.text.specs.Text.{put};
 ghost use Rattle.night.specs.Tallies.{word_of, bytes_of, tally_of};
 
 // A number, its last eight digits as the bytes of a word, the highest in the highest, and how many it has.
-#[derive(Drop)]
+#[derive(Clone, Copy)]
 pub struct Tally {
     pub number: u64,
     pub word: u64,

@@ -1,1 +1,3 @@
+#![tactic(auto)]
+
 // No code: what holds of the promises of all crates together.

@@ -1,3 +1,5 @@
+#![tactic(auto)]
+
 // Replays a night on a V830: the answer and the value read of each entry of a bench log.
 ghost use Rattle.std.specs.Prelude.{◌≡◌, ◌≤◌, length};
 
@@ -6,7 +8,7 @@ use night::{Next, Night};
 use stdio::{Amiss, Listing};
 
 // A listing under way: where it stands in the buffers, and the night.
-#[derive(Drop)]
+#[derive(Clone, Copy)]
 struct Course {
     listing: Listing,
     night: Night,

@@ -1,3 +1,5 @@
+#![tactic(auto)]
+
 // What the V260 and the V560 have in common: sixteen scales with their latches, the two vetoes, and what each order
 // does to them and to the interrupter beside them.
 ghost use Rattle.std.specs.Prelude.{◌≡◌};
@@ -9,7 +11,7 @@ use bus::interrupter::Interrupter;
 pub mod rows;
 
 // Sixteen counts, the lower-half latch of each, the front veto line and the VME veto.
-#[derive(Drop)]
+#[derive(Clone, Copy)]
 pub struct Scales {
     pub counts: [u32; 16],
     pub latches: [u32; 16],
@@ -18,7 +20,7 @@ pub struct Scales {
 }
 
 // What a command address, a line or the button does, alike in both modules.
-#[derive(Drop)]
+#[derive(Clone, Copy)]
 pub enum Order {
     ClearAccess,
     VetoSet,
@@ -32,7 +34,7 @@ pub enum Order {
 }
 
 // The scales and the interrupter after an order.
-#[derive(Drop)]
+#[derive(Clone, Copy)]
 pub struct Obeyed {
     pub scales: Scales,
     pub interrupter: Interrupter,
@@ -40,7 +42,7 @@ pub struct Obeyed {
 
 // A call of either module: pulses (channel, how many), the front veto line, TEST, the CLEAR line, a trigger, for which
 // neither has an input, an access, and MAN CLR.
-#[derive(Drop)]
+#[derive(Clone, Copy)]
 pub enum Call {
     Pulses(u32, u32),
     VetoLine(bool),

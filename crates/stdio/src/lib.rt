@@ -1,3 +1,5 @@
+#![tactic(auto)]
+
 // The two buffers of a program that reads standard input as a stream and writes standard output.
 ghost use Rattle.std.specs.Prelude.{◌≡◌, ◌+◌, ◌≤◌, length, take, drop};
 ghost use Rattle.stdio.specs.Window.{Refilled, Left};
@@ -16,7 +18,7 @@ pub const TURNS: u64 = 18446744073709551615;
 // What is amiss with a listing: nothing; it ends in a fault, with its number and the byte, or in an event that is
 // refused, with its number and the word; a case is wrong at a step; a read or a write failed, with the system's
 // number.
-#[derive(Drop)]
+#[derive(Clone, Copy)]
 pub enum Amiss {
     Nothing,
     Fault(u32, u64),
@@ -27,7 +29,7 @@ pub enum Amiss {
 }
 
 // How many bytes at the front of a buffer are the input's, whether the input has ended, and whether the read failed.
-#[derive(Drop)]
+#[derive(Clone, Copy)]
 pub struct Window {
     pub have: usize,
     pub ended: bool,
@@ -36,7 +38,7 @@ pub struct Window {
 
 // A listing under way: the bytes of the input buffer used and had, whether the input has ended, the input's place at
 // which that buffer begins, the output buffer's place, whether it goes on, and what is amiss with it.
-#[derive(Drop)]
+#[derive(Clone, Copy)]
 pub struct Listing {
     pub used: usize,
     pub have: usize,

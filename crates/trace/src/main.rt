@@ -1,3 +1,5 @@
+#![tactic(auto)]
+
 // Shows everything that a V260, a V560 or a V830 holds, after each entry of a log.
 ghost use Rattle.std.specs.Prelude.{◌≡◌, ◌≤◌, length};
 ghost use Rattle.head.specs.Heads.{up_from};
@@ -15,7 +17,7 @@ mod columns;
 const ANY: [u32; 1] = [4294967295];
 
 // A listing under way: where it stands, the module, and how many entries it has shown.
-#[derive(Drop)]
+#[derive(Clone, Copy)]
 struct Course {
     listing: Listing,
     traced: Held,

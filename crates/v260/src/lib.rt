@@ -1,3 +1,5 @@
+#![tactic(auto)]
+
 // The V260: sixteen scales of 24 bits, each of which may be joined to the one before it.
 ghost use Rattle.std.specs.Prelude.{◌≡◌};
 ghost use Rattle.v260.specs.Outcomes.{fits, is_formed, refused, done, start_of};
@@ -34,7 +36,7 @@ const TABLE: [Row; 16] = [
 
 // The switches: the channels that are joined to the one before, those that may request, and whether the jumpers JP18
 // (channels 0 to 7) and JP17 (8 to 15) are inserted.
-#[derive(Drop)]
+#[derive(Clone, Copy)]
 pub struct Switches {
     pub joined: u16,
     pub interrupts: u16,
@@ -43,14 +45,14 @@ pub struct Switches {
 }
 
 // The scales and the switches.
-#[derive(Drop)]
+#[derive(Clone, Copy)]
 pub struct V260 {
     pub scales: Scales,
     pub switches: Switches,
 }
 
 // What a call gives: the answer, the module and the interrupter after it.
-#[derive(Drop)]
+#[derive(Clone, Copy)]
 pub struct Outcome {
     pub answer: Answer,
     pub state: V260,
@@ -58,7 +60,7 @@ pub struct Outcome {
 }
 
 // What a call gives that was lent the interrupter: the answer and the module after it.
-#[derive(Drop)]
+#[derive(Clone, Copy)]
 pub struct Lent {
     pub answer: Answer,
     pub state: V260,

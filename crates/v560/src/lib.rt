@@ -1,3 +1,5 @@
+#![tactic(auto)]
+
 // The V560: sixteen scales of 32 bits, in eight sections of two that may be joined to one scale of 64 bits.
 ghost use Rattle.std.specs.Prelude.{◌≡◌};
 ghost use Rattle.v560.specs.Outcomes.{refused, done, started};
@@ -33,7 +35,7 @@ const TABLE: [Row; 16] = [
 ];
 
 // The scales, the joined sections, the sections that may request, and the veto latch.
-#[derive(Drop)]
+#[derive(Clone, Copy)]
 pub struct V560 {
     pub scales: Scales,
     pub joined: u8,
@@ -42,7 +44,7 @@ pub struct V560 {
 }
 
 // What a call gives: the answer, the module and the interrupter after it.
-#[derive(Drop)]
+#[derive(Clone, Copy)]
 pub struct Outcome {
     pub answer: Answer,
     pub state: V560,
@@ -50,7 +52,7 @@ pub struct Outcome {
 }
 
 // What a call gives that was lent the interrupter: the answer and the module after it.
-#[derive(Drop)]
+#[derive(Clone, Copy)]
 pub struct Lent {
     pub answer: Answer,
     pub state: V560,

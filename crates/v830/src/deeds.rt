@@ -12,14 +12,14 @@ use bus::table::Register;
 use bus::{Access, Answer};
 
 // Who clears or triggers: the front line, or the register.
-#[derive(Drop)]
+#[derive(Clone, Copy)]
 pub enum Source {
     Line,
     Register,
 }
 
 // What a call is to do.
-#[derive(Drop)]
+#[derive(Clone, Copy)]
 pub enum Deed {
     Refuse(Answer),
     Pulses(u32, u32),

@@ -1,3 +1,5 @@
+#![tactic(auto)]
+
 // The V830: 32 counters of 32 bits, and events in a memory that is lent to it.
 ghost use Rattle.std.specs.Prelude.{◌≡◌, length};
 ghost use Rattle.meb.specs.Ring.{lent};
@@ -60,13 +62,13 @@ const TRIGGER_COUNTER: usize = 9;
 const MEB_EVENT_NUMBER: usize = 10;
 
 // What is only counted up: the accepted triggers, in the Trigger Counter.
-#[derive(Drop)]
+#[derive(Clone, Copy)]
 pub struct Tallies {
     pub triggers: u32,
 }
 
 // The counters, Channel Enable, GEO, the event memory, the tallies, Control and the VETO line.
-#[derive(Drop)]
+#[derive(Clone, Copy)]
 pub struct V830 {
     pub counts: [u32; 32],
     pub enable: u32,
@@ -78,14 +80,14 @@ pub struct V830 {
 }
 
 // What a call gives: the answer, and the module after it.
-#[derive(Drop)]
+#[derive(Clone, Copy)]
 pub struct Outcome {
     pub answer: Answer,
     pub state: V830,
 }
 
 // Any call of the module, as the bench log names them.
-#[derive(Drop)]
+#[derive(Clone, Copy)]
 pub enum Call {
     Pulses(u32, u32),
     VetoLine(bool),
