@@ -1,0 +1,15 @@
+-- The first i words are copied; a turn copies one more. Assumes nothing.
+use mathlib.Core.Path.{◌≡◌}
+use Prim.Native.Nat.{◌-◌, ◌≤◌}
+use native.Mathlib.Omega.{arith}
+use lib.ListN.{length}
+use lib.Seq.{paste, paste-zero}
+use Rattle.text.proofs.Putting.{paste_one}
+use borrow.Author.Rules.{rules}
+use Rattle.text.proofs.widen.Given as goal
+
+abbrev pub invariant-loop-i : goal.invariant-loop-i
+invariant-loop-i l = (l.i ≤ length l.words) × (length l.numbers ≡ length l.initial.numbers) × (l.numbers ≡ paste l.initial.numbers l.at l.words l.i)
+
+abbrev pub decreases-loop-i : goal.decreases-loop-i
+decreases-loop-i l = length l.words - l.i
