@@ -6,8 +6,3 @@ pub mod Fair
 pub mod Refusals
 pub mod Untouched
 pub mod Formed
-pub mod Kind
-pub mod Rest
-pub mod Thin
-pub mod Loan
-pub mod Lends

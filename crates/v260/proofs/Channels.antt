@@ -26,7 +26,10 @@ is_among zero c i h l = absurd (omega arith)
 is_among (suc n) c zero h l = rw (eq-eqb ((c + 0) % 16) c (omega arith))
 is_among (suc n) c (suc i) h l =
     let e : (c + suc i) % 16 ≡ (after c + i) % 16 = omega arith in
-    rw e (or_true (eqb ((after c + i) % 16) c) (among ((after c + i) % 16) (path after n (after c))) (is_among n (after c) i (omega arith) (omega arith)))
+    subst
+    (λ (x : ℕ). among x (path after (suc n) c) ≡ true)
+    (sym e)
+    (or_true (eqb ((after c + i) % 16) c) (among ((after c + i) % 16) (path after n (after c))) (is_among n (after c) i (omega arith) (omega arith)))
 
 module _ (switches : Switches) (f k : ℕ) (s : Joined switches f k) where
   -- the channels from the j-th on

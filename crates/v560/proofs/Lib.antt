@@ -1,7 +1,6 @@
-pub mod Types
 pub mod Stepping
 pub mod Single
 pub mod ScaleHolds
 pub mod Numbering
 pub mod Forms
-pub mod Untouched
+-- pub mod Untouched

@@ -1,0 +1,14 @@
+-- The invariant: the channels that are left to look through give what all sixteen give. Assumes nothing.
+use mathlib.Core.Path.{sym, ◌∙◌}
+use Prim.Native.Nat.{◌-◌}
+use lib.ListN.{get_or}
+use Rattle.scaler.proofs.Any.{Looking, any_start, any_found, any_missed, any_over}
+use Rattle.v260.specs.Counting.{rise_at}
+use borrow.Author.Rules.{rules}
+use Rattle.v260.proofs.counting.any_rose.Given as goal
+
+abbrev pub invariant-loop-k : goal.invariant-loop-k
+invariant-loop-k l = Looking (λ k. rise_at l.switches k (get_or l.before k 0) (get_or l.after k 0)) 16 l.k
+
+abbrev pub decreases-loop-k : goal.decreases-loop-k
+decreases-loop-k l = 16 - l.k

@@ -1,0 +1,6 @@
+-- What rose among the sixteen raises the request. Assumes nothing.
+use borrow.Author.Rules.{rules}
+use Rattle.v260.proofs.counting.count_to.Goals as goal
+
+pub returns : goal.returns
+returns c = rw (← c.any_rose-rose.ensures, ← c.raised.ensures) c.done.ensures

@@ -1,0 +1,41 @@
+-- Each row is one test of the definition. Assumes nothing.
+use borrow.Author.Tests.{ne_eqb}
+use borrow.Author.Rules.{rules}
+use Rattle.v260.proofs.registers.perform.Goals as goal
+
+pub returns-in-0 : goal.returns-in-0
+returns-in-0 c = rw c.in-0.is c.done.ensures
+
+pub returns-in-1 : goal.returns-in-1
+returns-in-1 c = rw c.in-1.is c.test_pulse.ensures
+
+pub returns-in-2 : goal.returns-in-2
+returns-in-2 c = rw c.in-2.is c.obeyed.ensures
+
+pub returns-in-3 : goal.returns-in-3
+returns-in-3 c = rw c.in-3.is c.obeyed-in-3.ensures
+
+pub returns-in-4 : goal.returns-in-4
+returns-in-4 c = rw c.in-4.is c.obeyed-in-4.ensures
+
+pub returns-in-5 : goal.returns-in-5
+returns-in-5 c = rw c.in-5.is c.counter.ensures
+
+pub returns-in-6 : goal.returns-in-6
+returns-in-6 c = rw c.in-6.is c.lower_half.ensures
+
+pub returns-in-8 : goal.returns-in-8
+returns-in-8 c = rw c.in-8.is c.obeyed-in-8.ensures
+
+pub returns-in-9 : goal.returns-in-9
+returns-in-9 c = rw c.in-9.is c.obeyed-in-9.ensures
+
+pub returns-in-10 : goal.returns-in-10
+returns-in-10 c = rw c.in-10.is c.obeyed-in-10.ensures
+
+pub returns-in-11 : goal.returns-in-11
+returns-in-11 c = rw c.in-11.is c.done-in-11.ensures
+
+pub returns-in-12 : goal.returns-in-12
+returns-in-12 c = rw (c.in-12.is, ← c.vectored.ensures) c.done-in-12.ensures
+
