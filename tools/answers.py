@@ -59,100 +59,76 @@ def blocks(text):
 
 
 class Names:
+    """The new names of a function's steps; an old step's name stands once in a function."""
+
     def __init__(self, entry):
-        self.entry = entry
-        self.places = entry["places"]
-        self.at = {p[0]: i for i, p in enumerate(self.places)}
-        self.missed = []
+        self.steps, self.arms, self.raw, self.missed = {}, [], set(), []
+        for old, _, (step, new), _, facts in entry["places"]:
+            if step:
+                self.steps.setdefault(step, new)
+            if ["true", "true-raw"] in facts or ["false", "false-raw"] in facts:
+                self.raw.add(new)
+        for arm in entry["arms"]:
+            for new, step, path in arm[2] if arm else []:
+                if path:
+                    self.arms.append((step, path, [arm[0], new]))
 
-    def step(self, place, field):
-        """The step of that old name at a place or above it: (index, new name)."""
-        i = self.at.get(place)
-        while i is not None:
-            old, parent, names = self.places[i][:3]
-            if names[0] == field and names[0]:
-                return i, names[1]
-            i = self.at.get(parent)
-        return None, None
+    def spellings(self, field):
+        plain = re.sub(r"(_lem)+$", "", field)
+        for name in (field, plain):
+            for word in (name, name.replace("_", "-"), name.replace("-", "_"), re.sub(r"-?\d+$", "", name)):
+                yield word
 
-    def up(self, place):
-        i = self.at.get(place)
-        return self.places[i][1] if i is not None else None
-
-    def arm(self, i, field, rest):
-        arms = self.entry["arms"][i] if i < len(self.entry["arms"]) else None
-        for j, arm in enumerate(self.entry["arms"]):
-            if not arm:
-                continue
-            for new, step, path in arm[2]:
-                if step == field and path and rest[: len(path)] == path:
-                    return arm[0], new, rest[len(path) :]
-        return None
-
-    def path(self, place, fields):
-        """The new fields of an old path from a place; the place where it ends, if it ends at one."""
-        k = 0
-        while k < len(fields) and fields[k] == "before":
-            place = self.up(place)
-            k += 1
-        fields = fields[k:]
-        if not fields:
-            return [], place
-        field, rest = fields[0], fields[1:]
-        if field in ("args", "requires", "ranges"):
-            return fields, None
-        for f in (field, field.replace("_", "-"), field.replace("-", "_")):
-            found = self.arm(0, f, rest)
-            if found:
-                return [found[0], found[1]] + found[2], None
-            i, new = self.step(place, f)
-            if new:
-                return [new] + rest, None
+    def path(self, fields):
+        """The new fields of an old path, and whether it is a place, a record with all that is known there."""
+        while fields and fields[0] == "before":
+            fields = fields[1:]
+        if not fields or fields[0] in ("args", "requires", "ranges"):
+            return fields
+        for field in self.spellings(fields[0]):
+            for step, path, new in self.arms:
+                if step == field and fields[1 : 1 + len(path)] == path:
+                    return new + fields[1 + len(path) :]
+            if field in self.steps:
+                return [self.steps[field]] + fields[1:]
         self.missed.append(".".join(fields))
-        return fields, None
+        return fields
+
+    def written(self, var, fields):
+        new = self.path(fields)
+        text = ".".join([var] + new)
+        if len(new) == 2 and new[0] in self.raw and new[1] in ("true", "false"):
+            if new[0].startswith("if-not-"):
+                return f"(ap not {text})"
+            return text + "-raw"
+        return text
 
 
-def turned(text, names, place, scope):
-    """A body with its old paths turned; scope has the variables that stand for a place."""
-    scope = dict(scope)
-    out, at = [], 0
-    pieces = re.split(r"(\blet\s+[^\s:=]+\s*(?::[^=]*)?=)", text)
-    pending = None
-    for piece in pieces:
-        found = re.match(r"let\s+([^\s:=]+)", piece)
+def turned(text, names, scope):
+    """A body with its old paths turned; scope has the variables that stand for all that is known at a place."""
+    out = []
+    while text:
+        found = re.search(r"\blet\s+([^\s:=]+)\s*=\s*([A-Za-z_][\w'-]*)((?:\.before)*)\s+in\b", text)
+        if not found or found.group(2) not in scope:
+            found = None
+        upto = found.start() if found else len(text)
+        out.append(paths(text[:upto], names, scope))
         if found:
-            pending = found.group(1)
-            out.append(paths(piece, names, scope)[0])
-            continue
-        new, ends = paths(piece, names, scope)
-        if pending:
-            bound = re.match(r"\s*([A-Za-z_][\w'-]*)((?:\.[\w'-]+)*)\s+in\b", piece)
-            scope.pop(pending, None)
-            if bound and bound.group(1) in scope_all(scope, names):
-                fields = [f for f in bound.group(2).split(".") if f]
-                base = scope.get(bound.group(1))
-                if base is not None:
-                    got, end = names.path(base, fields)
-                    if not got:
-                        scope[pending] = end
-            pending = None
-        out.append(new)
+            if found.group(1) != found.group(2):
+                out.append(f"let {found.group(1)} = {found.group(2)} in")
+                scope = scope | {found.group(1)}
+            text = text[found.end() :]
+        else:
+            text = ""
     return "".join(out)
-
-
-def scope_all(scope, names):
-    return scope
 
 
 def paths(text, names, scope):
     def one(found):
         var, fields = found.group(1), found.group(2).split(".")[1:]
-        if var not in scope:
-            return found.group(0)
-        new, _ = names.path(scope[var], fields)
-        return ".".join([var] + new)
+        return names.written(var, fields) if var in scope else found.group(0)
 
-    return PATH.sub(one, text), None
+    return PATH.sub(one, text)
 
 
 def norm(name):
@@ -186,6 +162,18 @@ def invariant(decl, entry, at):
     return re.sub(r"(?<![\w.'-])[A-Za-z_][\w'₀-₉-]*", fits, rest), None
 
 
+def merged(uses):
+    """The use lines, those of one module as one."""
+    found, other = {}, []
+    for line in uses:
+        parts = re.match(r"use ([^\s{]+)\.\{(.*)\}$", line)
+        if parts:
+            found.setdefault(parts.group(1), []).extend(w.strip() for w in parts.group(2).split(","))
+        else:
+            other.append(line)
+    return [f"use {module}.{{{', '.join(dict.fromkeys(words))}}}" for module, words in found.items()] + other
+
+
 def turn(crate, function, entries):
     folder = f"crates/{crate}/proofs/{function}"
     module = function.replace("/", ".")
@@ -200,7 +188,6 @@ def turn(crate, function, entries):
     if any("rules" in "\n".join(d[2]) for d in decls):
         uses.append("use borrow.Author.Rules.{rules}")
     needs = entry["needs"]
-    asked = entry["asked_at"]
     by_name = {norm(n[0]): i for i, n in enumerate(needs)}
     answers, invariants, helpers, said = [], [], [], []
     order = [d for d in decls if re.search(r": tie\.Need-", d[1])]
@@ -238,8 +225,7 @@ def turn(crate, function, entries):
             if rest.strip() == "search rules":
                 continue
             new = needs[i][1]
-            place = asked[i][0] if i < len(asked) else None
-            text = turned(rest, names, place, {"c": place})
+            text = turned(rest, names, {"c"})
             answers.append(f"pub {new} : goal.{new}\n{head.group(1)}{new} c = {text}")
             continue
         if "statement M" in d[1]:
@@ -252,6 +238,9 @@ def turn(crate, function, entries):
         with open(folder + "/Invariants.antt", "w", encoding="utf-8") as file:
             file.write(text)
     if answers:
+        if any("(ap not " in a for a in answers):
+            uses += ["use mathlib.Core.Path.{ap}", "use mathlib.Core.Bool.{not}"]
+            uses = merged(uses)
         top = "" if invariants else head
         text = top + "\n".join(uses) + f"\nuse {where}.Goals as goal\n\n" + "\n\n".join(helpers + answers) + "\n"
         with open(folder + "/Answers.antt", "w", encoding="utf-8") as file:

@@ -44,14 +44,14 @@ fn is_well(amiss: Amiss) -> bool
 }
 
 // Reads on, behind the bytes that are not used yet, where the listing goes on.
-pub fn read_on(buf: &mut [u8], l: Listing) -> Listing
+pub fn read_on(rt: &HostRuntime, buf: &mut [u8], l: Listing) -> Listing
     ensures { ReadOn buf.old l buf.new result }
 {
     if !l.more {
         return l;
     }
     let base = place(l, l.used);
-    let w = refill(buf, l.used, l.have);
+    let w = refill(rt, buf, l.used, l.have);
     let amiss = w.amiss;
     Listing {
         used: 0,
@@ -104,7 +104,7 @@ fn lost(l: Listing, amiss: Amiss) -> Listing
 
 // Writes what stands in the output buffer to standard output; where that fails the listing ends, and no more is
 // written.
-pub fn flush(out: &[u8], l: Listing) -> Listing
+pub fn flush(rt: &HostRuntime, out: &[u8], l: Listing) -> Listing
     ensures { result ≡ written_by result.amiss l }
 {
     let amiss = l.amiss;
@@ -115,20 +115,20 @@ pub fn flush(out: &[u8], l: Listing) -> Listing
     if at > out.len() {
         return moved(l, 0);
     }
-    if io::write_all(1, &out[..at]) {
-        return moved(l, 0);
+    match rt.stdout().write_all(&out[..at]) {
+        Ok(()) => moved(l, 0),
+        Err(error) => lost(l, Amiss::Write(failed(rt, b"failed write ", error))),
     }
-    lost(l, Amiss::Write(failed(b"failed write ")))
 }
 
 // Makes room for `want` bytes in the output buffer: writes what stands there where they do not fit behind it.
-pub fn make_room(out: &[u8], l: Listing, want: usize) -> Listing
+pub fn make_room(rt: &HostRuntime, out: &[u8], l: Listing, want: usize) -> Listing
     ensures { result ≡ roomy_by result.amiss (length out.now) l want }
 {
     if text::fits(out, l.at, want) {
         return l;
     }
-    flush(out, l)
+    flush(rt, out, l)
 }
 
 // Ends a listing, for what is amiss, unless something was before.
@@ -169,17 +169,17 @@ pub fn end(out: &mut [u8], l: Listing, number: u32) -> Listing
 
 // Writes what is left of a listing, behind it the line of a read that failed, and says on standard error what is
 // amiss.
-pub fn close(out: &mut [u8], l: Listing)
+pub fn close(rt: &HostRuntime, out: &mut [u8], l: Listing)
     ensures { out.new ≡ closed_text out.old l }
 {
-    let last = put_last(out, l);
-    let closed = flush(out, last);
+    let last = put_last(rt, out, l);
+    let closed = flush(rt, out, last);
     let amiss = closed.amiss;
-    say(amiss);
+    say(rt, amiss);
 }
 
 // Puts what comes last: the line of a read that failed, if one did.
-fn put_last(out: &mut [u8], l: Listing) -> Listing
+fn put_last(rt: &HostRuntime, out: &mut [u8], l: Listing) -> Listing
     ensures { out.new ≡ closed_text out.old l }
 {
     let amiss = l.amiss;
@@ -188,16 +188,16 @@ fn put_last(out: &mut [u8], l: Listing) -> Listing
         Amiss::Fault(_, _) => l,
         Amiss::Refused(_, _) => l,
         Amiss::Wrong(_, _) => l,
-        Amiss::Read(error) => put_failed(out, l, error),
+        Amiss::Read(error) => put_failed(rt, out, l, error),
         Amiss::Write(_) => l,
     }
 }
 
 // Puts the line of a read that failed.
-fn put_failed(out: &mut [u8], l: Listing, error: u32) -> Listing
+fn put_failed(rt: &HostRuntime, out: &mut [u8], l: Listing, error: u32) -> Listing
     ensures { out.new ≡ put_in 33 out.old (room_at (length out.old) l.at 33) (failed_line error) }
 {
-    let r = make_room(out, l, 33);
+    let r = make_room(rt, out, l, 33);
     let at = text::put_failed(out, r.at, error);
     moved(r, at)
 }

@@ -4,6 +4,8 @@
 ghost use Rattle.std.specs.Prelude.{◌≡◌, ◌+◌, ◌≤◌, length, take, drop};
 ghost use Rattle.stdio.specs.Window.{Refilled, Left};
 
+use std::io;
+use std::io::Read;
 use words::failed;
 
 mod course;
@@ -50,7 +52,7 @@ pub struct Listing {
 }
 
 // Moves the bytes from `used` up to `have` to the front and reads more of standard input behind them.
-pub fn refill(buf: &mut [u8], used: usize, have: usize) -> Window
+pub fn refill(rt: &HostRuntime, buf: &mut [u8], used: usize, have: usize) -> Window
     ensures { Refilled buf.old used have buf.new result }
 {
     let nothing = Window {
@@ -66,27 +68,25 @@ pub fn refill(buf: &mut [u8], used: usize, have: usize) -> Window
     }
     let left = have - used;
     shift(buf, used, left);
-    let got = libc::read(0, &mut buf[left..]);
-    if got < 0 {
-        return unread(left);
-    }
-    let n = io::count(got, &buf[left..]);
-    let total = left + n;
-    Window {
-        have: total,
-        ended: n == 0,
-        amiss: Amiss::Nothing,
+    let mut input = rt.stdin();
+    match input.read(&mut buf[left..]) {
+        Ok(n) => Window {
+            have: left + n,
+            ended: n == 0,
+            amiss: Amiss::Nothing,
+        },
+        Err(error) => unread(rt, left, error),
     }
 }
 
 // What a read that failed leaves: the `left` bytes that were there.
-fn unread(left: usize) -> Window
+fn unread(rt: &HostRuntime, left: usize, error: io::Error) -> Window
     ensures { (result.have ≡ left) × Left left result result.amiss }
 {
     Window {
         have: left,
         ended: false,
-        amiss: Amiss::Read(failed(b"failed read ")),
+        amiss: Amiss::Read(failed(rt, b"failed read ", error)),
     }
 }
 

@@ -1,21 +1,67 @@
 // What a program says on standard error: one line, where its listing is not whole.
-use crate::Amiss;
+ghost use Rattle.std.specs.Prelude.{◌≤◌, length};
 
-// Says what failed, with the system's number and its words, and answers that number.
-pub(crate) fn failed(what: &[u8]) -> u32 {
-    let error = number_of(os::errno());
-    let mut words = [0u8; 64];
-    let from = text::put_text(&mut words, 0, what);
-    let at = text::put_number(&mut words, from, error as u64);
-    fail(&words, at);
-    error
+use crate::Amiss;
+use std::fmt::Write;
+use std::{fmt, io};
+
+// What the system calls an error, as text that is put into a buffer as far as it fits.
+#[derive(Clone, Copy)]
+struct Named {
+    bytes: [u8; 128],
+    at: usize,
 }
 
-// Writes the first `at` bytes to standard error, and behind them what the system calls its last error.
-fn fail(words: &[u8], at: usize) {
-    if at <= words.len() {
-        os::fail(&words[..at]);
+impl fmt::Write for Named {
+    fn write_str(&mut self, s: &str) -> fmt::Result {
+        for byte in s.as_bytes() {
+            if self.at < 128 {
+                self.bytes[self.at] = *byte;
+                self.at += 1;
+            }
+        }
+        Ok(())
     }
+}
+
+// Says what failed, with the system's number and its words, and answers that number.
+pub(crate) fn failed(rt: &HostRuntime, what: &[u8], error: io::Error) -> u32 {
+    let number = match error.raw_os_error() {
+        Some(code) => number_of(code),
+        None => 0,
+    };
+    let mut words = [0u8; 256];
+    let from = text::put_text(&mut words, 0, what);
+    let behind = text::put_number(&mut words, from, number as u64);
+    let at = put_name(&mut words, behind, error);
+    complain(rt, &words, at);
+    number
+}
+
+// Puts a colon, what the system calls an error, and a line feed.
+fn put_name(words: &mut [u8], at: usize, error: io::Error) -> usize {
+    let mut named = Named {
+        bytes: [0; 128],
+        at: 0,
+    };
+    let _ = write!(named, "{error}");
+    let end = name_end(&named.bytes, named.at);
+    let from = text::put_text(words, at, b": ");
+    let behind = text::put_text(words, from, &named.bytes[..end]);
+    text::put_text(words, behind, b"\n")
+}
+
+// Where what the system calls an error ends: in front of the number that stands behind it in brackets.
+fn name_end(bytes: &[u8], at: usize) -> usize
+    ensures { result ≤ length bytes.now }
+{
+    let mut end = at.min(bytes.len());
+    for i in 1..bytes.len() {
+        if i < at && bytes[i - 1] == b' ' && bytes[i] == b'(' {
+            end = i - 1;
+        }
+    }
+    end
 }
 
 // The system's number of an error, which is above 0.
@@ -24,27 +70,27 @@ fn number_of(error: i32) -> u32 {
 }
 
 // Says what is amiss with a listing; of a read or a write that failed it was said when it failed.
-pub(crate) fn say(amiss: Amiss) {
+pub(crate) fn say(rt: &HostRuntime, amiss: Amiss) {
     match amiss {
         Amiss::Nothing => {}
-        Amiss::Fault(number, place) => say_numbers(b"fault ", number as u64, place),
-        Amiss::Refused(number, place) => say_numbers(b"refused ", number as u64, place),
-        Amiss::Wrong(case, step) => say_numbers(b"wrong ", case, step),
+        Amiss::Fault(number, place) => say_numbers(rt, b"fault ", number as u64, place),
+        Amiss::Refused(number, place) => say_numbers(rt, b"refused ", number as u64, place),
+        Amiss::Wrong(case, step) => say_numbers(rt, b"wrong ", case, step),
         Amiss::Read(_) | Amiss::Write(_) => {}
     }
 }
 
 // Says a word and two numbers.
-fn say_numbers(word: &[u8], first: u64, second: u64) {
+fn say_numbers(rt: &HostRuntime, word: &[u8], first: u64, second: u64) {
     let mut words = [0u8; 64];
     let from = text::put_text(&mut words, 0, word);
     let at = text::put_line(&mut words, from, &[first, second]);
-    complain(&words, at);
+    complain(rt, &words, at);
 }
 
-// Writes the first `at` bytes to standard error.
-fn complain(words: &[u8], at: usize) {
+// Writes the first `at` bytes to standard error; what cannot be written there can be said nowhere.
+fn complain(rt: &HostRuntime, words: &[u8], at: usize) {
     if at <= words.len() {
-        io::write_all(2, &words[..at]);
+        let _ = rt.stderr().write_all(&words[..at]);
     }
 }
