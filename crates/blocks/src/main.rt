@@ -100,16 +100,23 @@ fn behind(used: usize, words: u32) -> usize {
 
 // Lists the event that comes next, or reads on where its words are not all there, or ends the listing. A line has 38
 // numbers.
-fn turn(buf: &mut [u8], out: &mut [u8], before: Listing, settings: Settings, from: u64) -> Listing
+fn turn(
+    rt: &HostRuntime,
+    buf: &mut [u8],
+    out: &mut [u8],
+    before: Listing,
+    settings: Settings,
+    from: u64,
+) -> Listing
     requires { before.have ≤ length buf.old }
     ensures { result.have ≤ length buf.old }
 {
-    let l = stdio::make_room(out, before, 798);
+    let l = stdio::make_room(rt, out, before, 798);
     if unused(l) < 4 && l.ended {
         return stdio::end(out, l, benchlog::fault_number(Fault::Ends));
     }
     if unused(l) < 4 {
-        return stdio::read_on(buf, stdio::flush(out, l));
+        return stdio::read_on(rt, buf, stdio::flush(rt, out, l));
     }
     let used = l.used;
     let have = l.have;
@@ -118,7 +125,7 @@ fn turn(buf: &mut [u8], out: &mut [u8], before: Listing, settings: Settings, fro
     let event = r.event;
     let reply = layout::numbered(answer);
     if reply.number == words_end() && !l.ended {
-        return stdio::read_on(buf, stdio::flush(out, l));
+        return stdio::read_on(rt, buf, stdio::flush(rt, out, l));
     }
     listed(out, l, reply, event, from)
 }
@@ -130,7 +137,13 @@ fn words_end() -> u32 {
 }
 
 // Lists the events behind a head.
-fn list_events(buf: &mut [u8], out: &mut [u8], first: Listing, head: Head) -> Listing
+fn list_events(
+    rt: &HostRuntime,
+    buf: &mut [u8],
+    out: &mut [u8],
+    first: Listing,
+    head: Head,
+) -> Listing
     requires { first.have ≤ length buf.old }
 {
     let at = text::put_text(
@@ -148,14 +161,14 @@ fn list_events(buf: &mut [u8], out: &mut [u8], first: Listing, head: Head) -> Li
     l.at = at;
     let mut turns = stdio::TURNS;
     while turns > 0 && l.more {
-        l = turn(buf, out, l, settings, head.after as u64);
+        l = turn(rt, buf, out, l, settings, head.after as u64);
         turns -= 1;
     }
     l
 }
 
 // The listing behind its beginning; a refused head is its fault line alone.
-fn list(buf: &mut [u8], out: &mut [u8], first: Listing) -> Listing
+fn list(rt: &HostRuntime, buf: &mut [u8], out: &mut [u8], first: Listing) -> Listing
     requires { first.have ≤ length buf.old }
 {
     if !first.more {
@@ -164,21 +177,21 @@ fn list(buf: &mut [u8], out: &mut [u8], first: Listing) -> Listing
     let have = first.have;
     let head = head::read_head(&buf[..have], &LIMITS);
     if head.answer == 0 {
-        return list_events(buf, out, first, head);
+        return list_events(rt, buf, out, first, head);
     }
     stdio::fault(out, first, head.answer)
 }
 
 // The whole listing.
-fn run(buf: &mut [u8], out: &mut [u8]) {
-    let first = head::begin(buf, &LIMITS);
-    let last = list(buf, out, first);
-    stdio::close(out, last);
+fn run(rt: &HostRuntime, buf: &mut [u8], out: &mut [u8]) {
+    let first = head::begin(rt, buf, &LIMITS);
+    let last = list(rt, buf, out, first);
+    stdio::close(rt, out, last);
 }
 
 // The two buffers, of 64 KiB each.
-fn main() {
+fn main(rt: HostRuntime) {
     let mut buf = [0u8; 65536];
     let mut out = [0u8; 65536];
-    run(&mut buf, &mut out);
+    run(&rt, &mut buf, &mut out);
 }

@@ -33,11 +33,11 @@ pub(crate) struct Case {
 }
 
 // Puts the line of a case; one that is wrong is what is amiss with the listing.
-fn put_case(out: &mut [u8], before: Listing, number: usize, c: Case) -> Listing {
+fn put_case(rt: &HostRuntime, out: &mut [u8], before: Listing, number: usize, c: Case) -> Listing {
     let case = number as u64;
     let wrong = wrong_in(c) as u64;
     let numbers = [case, c.line as u64, c.many as u64, wrong];
-    let mut l = stdio::make_room(out, before, 84);
+    let mut l = stdio::make_room(rt, out, before, 84);
     l.at = text::put_line(out, l.at, &numbers);
     if wrong != 0 {
         return stdio::stop(l, Amiss::Wrong(case, wrong));
@@ -46,19 +46,19 @@ fn put_case(out: &mut [u8], before: Listing, number: usize, c: Case) -> Listing 
 }
 
 // The whole listing.
-fn run(out: &mut [u8]) {
+fn run(rt: &HostRuntime, out: &mut [u8]) {
     let cases = marked();
     let mut l = stdio::begin(text::put_text(out, 0, b"case line steps wrong\n"));
     let mut k: usize = 0;
     while k < 9 {
-        l = put_case(out, l, k + 1, cases[k]);
+        l = put_case(rt, out, l, k + 1, cases[k]);
         k += 1;
     }
-    stdio::close(out, l);
+    stdio::close(rt, out, l);
 }
 
 // The buffer of the lines.
-fn main() {
+fn main(rt: HostRuntime) {
     let mut out = [0u8; 1024];
-    run(&mut out);
+    run(&rt, &mut out);
 }

@@ -52,12 +52,12 @@ fn refused(answer: u32) -> Head
 }
 
 // Begins a listing: reads on until the head is whole or refused, or the input has ended, or a read fails.
-pub fn begin(buf: &mut [u8], limits: &[u32]) -> Listing
+pub fn begin(rt: &HostRuntime, buf: &mut [u8], limits: &[u32]) -> Listing
     ensures { Begun buf.new limits.now result }
 {
     let mut l = stdio::begin(0);
     while l.more && !l.ended && is_cut(buf, l, limits) {
-        l = stdio::read_on(buf, l);
+        l = stdio::read_on(rt, buf, l);
     }
     l
 }

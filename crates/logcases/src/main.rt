@@ -81,7 +81,7 @@ fn read_case(input: &[u8], at: usize) -> Case
 }
 
 // Puts the line of a call.
-fn put_call(out: &mut [u8], before: Listing, e: Fields, n: Number) -> Listing
+fn put_call(rt: &HostRuntime, out: &mut [u8], before: Listing, e: Fields, n: Number) -> Listing
     ensures { result.have ≡ before.have }
 {
     let numbers = [
@@ -95,13 +95,13 @@ fn put_call(out: &mut [u8], before: Listing, e: Fields, n: Number) -> Listing
         n.value as u64,
         n.after as u64,
     ];
-    let mut l = stdio::make_room(out, before, 189);
+    let mut l = stdio::make_room(rt, out, before, 189);
     l.at = text::put_line(out, l.at, &numbers);
     l
 }
 
 // Puts the lines of a case. A log of n bytes has at most n entries, and a refusal behind them.
-fn put_case(log: &[u8], start: usize, out: &mut [u8], before: Listing) -> Listing
+fn put_case(rt: &HostRuntime, log: &[u8], start: usize, out: &mut [u8], before: Listing) -> Listing
     ensures { result.have ≡ before.have }
 {
     let mut place = start;
@@ -110,7 +110,7 @@ fn put_case(log: &[u8], start: usize, out: &mut [u8], before: Listing) -> Listin
     let mut i = 0;
     while i <= log.len() && answer == 0 {
         let e = benchlog::numbers_of(benchlog::read_entry(log, place));
-        l = put_call(out, l, e, numbered(benchlog::read_number(log, place)));
+        l = put_call(rt, out, l, e, numbered(benchlog::read_number(log, place)));
         answer = e.answer;
         place = e.place;
         i += 1;
@@ -119,7 +119,7 @@ fn put_case(log: &[u8], start: usize, out: &mut [u8], before: Listing) -> Listin
 }
 
 // Lists the case that comes next, or reads on, or ends the listing.
-fn turn(buf: &mut [u8], out: &mut [u8], l: Listing) -> Listing
+fn turn(rt: &HostRuntime, buf: &mut [u8], out: &mut [u8], l: Listing) -> Listing
     requires { l.have ≤ length buf.old }
     ensures { result.have ≤ length buf.old }
 {
@@ -128,18 +128,18 @@ fn turn(buf: &mut [u8], out: &mut [u8], l: Listing) -> Listing
     if c.answer == 0 {
         let from = c.from;
         let to = c.to;
-        let mut after = put_case(&buf[from..to], c.start, out, l);
+        let mut after = put_case(rt, &buf[from..to], c.start, out, l);
         after.used = to;
         return after;
     }
     if !l.ended && c.answer == benchlog::fault_number(Fault::Ends) {
-        return stdio::read_on(buf, stdio::flush(out, l));
+        return stdio::read_on(rt, buf, stdio::flush(rt, out, l));
     }
-    stdio::end(out, stdio::make_room(out, l, 48), c.answer)
+    stdio::end(out, stdio::make_room(rt, out, l, 48), c.answer)
 }
 
 // The whole listing.
-fn run(buf: &mut [u8], out: &mut [u8]) {
+fn run(rt: &HostRuntime, buf: &mut [u8], out: &mut [u8]) {
     let at = text::put_text(
         out,
         0,
@@ -148,15 +148,15 @@ fn run(buf: &mut [u8], out: &mut [u8]) {
     let mut l = stdio::begin(at);
     let mut turns = stdio::TURNS;
     while turns > 0 && l.more {
-        l = turn(buf, out, l);
+        l = turn(rt, buf, out, l);
         turns -= 1;
     }
-    stdio::close(out, l);
+    stdio::close(rt, out, l);
 }
 
 // The two buffers, of 64 KiB each.
-fn main() {
+fn main(rt: HostRuntime) {
     let mut buf = [0u8; 65536];
     let mut out = [0u8; 65536];
-    run(&mut buf, &mut out);
+    run(&rt, &mut buf, &mut out);
 }

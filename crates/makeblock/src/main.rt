@@ -116,16 +116,16 @@ fn write(buf: &[u8], out: &mut [u8], first: Listing, limits: [u32; 39]) -> Listi
 }
 
 // What is written.
-fn run(buf: &mut [u8], out: &mut [u8]) {
+fn run(rt: &HostRuntime, buf: &mut [u8], out: &mut [u8]) {
     let limits = limits();
-    let first = head::begin(buf, &limits);
+    let first = head::begin(rt, buf, &limits);
     let last = write(buf, out, first, limits);
-    stdio::close(out, last);
+    stdio::close(rt, out, last);
 }
 
 // The two buffers, of 64 KiB each.
-fn main() {
+fn main(rt: HostRuntime) {
     let mut buf = [0u8; 65536];
     let mut out = [0u8; 65536];
-    run(&mut buf, &mut out);
+    run(&rt, &mut buf, &mut out);
 }

@@ -30,13 +30,13 @@ fn refused(l: Listing, answer: Answer) -> Listing
 }
 
 // Goes on behind the part that was shown: reads on where it wants bytes, ends where nothing is next.
-fn gone_on(buf: &mut [u8], l: Listing, next: Next) -> Listing
+fn gone_on(rt: &HostRuntime, buf: &mut [u8], l: Listing, next: Next) -> Listing
     requires { (l.used ≤ l.have) × (l.have ≤ length buf.old) }
     ensures { (result.used ≤ result.have) × (result.have ≤ length buf.old) }
 {
     match next {
         Next::Lines => l,
-        Next::Bytes => stdio::read_on(buf, l),
+        Next::Bytes => stdio::read_on(rt, buf, l),
         Next::Nothing => stdio::stop(l, Amiss::Nothing),
         Next::Faulted(number) => faulted(l, number),
         Next::Refused(answer) => refused(l, answer),
@@ -44,7 +44,13 @@ fn gone_on(buf: &mut [u8], l: Listing, next: Next) -> Listing
 }
 
 // Shows a part of the listing and goes on behind it.
-fn turn(buf: &mut [u8], out: &mut [u8], memory: &mut [u32], course: Course) -> Course
+fn turn(
+    rt: &HostRuntime,
+    buf: &mut [u8],
+    out: &mut [u8],
+    memory: &mut [u32],
+    course: Course,
+) -> Course
     requires { (course.listing.used ≤ course.listing.have) × (course.listing.have ≤ length buf.old) }
     ensures { (result.listing.used ≤ result.listing.have) × (result.listing.have ≤ length buf.old) }
 {
@@ -55,36 +61,36 @@ fn turn(buf: &mut [u8], out: &mut [u8], memory: &mut [u32], course: Course) -> C
     let part = night::replay(night, memory, &buf[used..have], l.ended, out);
     l.at = part.at;
     l.used = used + part.used;
-    let shown = stdio::flush(out, l);
+    let shown = stdio::flush(rt, out, l);
     let next = part.next;
     let after = part.night;
     Course {
-        listing: gone_on(buf, shown, next),
+        listing: gone_on(rt, buf, shown, next),
         night: after,
     }
 }
 
 // The whole listing.
-fn run(buf: &mut [u8], out: &mut [u8], memory: &mut [u32]) {
+fn run(rt: &HostRuntime, buf: &mut [u8], out: &mut [u8], memory: &mut [u32]) {
     let at = night::put_heading(out, 0);
-    let first = stdio::flush(out, stdio::begin(at));
+    let first = stdio::flush(rt, out, stdio::begin(at));
     let mut course = Course {
         listing: first,
         night: night::begin(memory),
     };
     let mut turns = stdio::TURNS;
     while turns > 0 && course.listing.more {
-        course = turn(buf, out, memory, course);
+        course = turn(rt, buf, out, memory, course);
         turns -= 1;
     }
     let last = course.listing;
-    stdio::close(out, last);
+    stdio::close(rt, out, last);
 }
 
 // The two buffers, of 64 KiB for the log and 256 KiB for the listing, and the 16,384 words of the event memory.
-fn main() {
+fn main(rt: HostRuntime) {
     let mut buf = [0u8; 65536];
     let mut out = [0u8; 262144];
     let mut memory = [0u32; 16384];
-    run(&mut buf, &mut out, &mut memory);
+    run(&rt, &mut buf, &mut out, &mut memory);
 }

@@ -121,40 +121,40 @@ fn put_held(out: &mut [u8], room: usize, entry: u64, traced: Held) -> usize {
 }
 
 // Puts a word of the memory after a blank.
-fn put_word(out: &mut [u8], before: Listing, word: u32) -> Listing {
-    let mut l = stdio::make_room(out, before, 11);
+fn put_word(rt: &HostRuntime, out: &mut [u8], before: Listing, word: u32) -> Listing {
+    let mut l = stdio::make_room(rt, out, before, 11);
     let p = text::put_text(out, l.at, b" ");
     l.at = text::put_number(out, p, word as u64);
     l
 }
 
 // Puts a text.
-fn put_text(out: &mut [u8], before: Listing, words: &[u8]) -> Listing {
-    let mut l = stdio::make_room(out, before, words.len());
+fn put_text(rt: &HostRuntime, out: &mut [u8], before: Listing, words: &[u8]) -> Listing {
+    let mut l = stdio::make_room(rt, out, before, words.len());
     l.at = text::put_text(out, l.at, words);
     l
 }
 
 // Puts the line of every lent word.
-fn put_memory(out: &mut [u8], before: Listing, memory: &[u32]) -> Listing {
-    let mut l = put_text(out, before, b"memory");
+fn put_memory(rt: &HostRuntime, out: &mut [u8], before: Listing, memory: &[u32]) -> Listing {
+    let mut l = put_text(rt, out, before, b"memory");
     let mut k: usize = 0;
     while k < memory.len() {
-        l = put_word(out, l, memory[k]);
+        l = put_word(rt, out, l, memory[k]);
         k += 1;
     }
-    put_text(out, l, b"\n")
+    put_text(rt, out, l, b"\n")
 }
 
 // Puts what comes after the last line: the memory of a V830, unless the listing is cut by a read that failed.
-fn put_last(out: &mut [u8], l: Listing, which: Which, memory: &[u32]) -> Listing {
+fn put_last(rt: &HostRuntime, out: &mut [u8], l: Listing, which: Which, memory: &[u32]) -> Listing {
     if is_cut(l) {
         return l;
     }
     match which {
         Which::V260 => l,
         Which::V560 => l,
-        Which::V830 => put_memory(out, l, memory),
+        Which::V830 => put_memory(rt, out, l, memory),
     }
 }
 
@@ -197,12 +197,18 @@ fn moved(course: Course, listing: Listing) -> Course
 }
 
 // Shows the entry that comes next, or reads on, or ends the listing.
-fn turn(buf: &mut [u8], out: &mut [u8], memory: &mut [u32], before: Course) -> Course
+fn turn(
+    rt: &HostRuntime,
+    buf: &mut [u8],
+    out: &mut [u8],
+    memory: &mut [u32],
+    before: Course,
+) -> Course
     requires { before.listing.have ≤ length buf.old }
     ensures { result.listing.have ≤ length buf.old }
 {
     let listing = before.listing;
-    let l = stdio::make_room(out, listing, 903);
+    let l = stdio::make_room(rt, out, listing, 903);
     let course = moved(before, l);
     let have = l.have;
     match benchlog::read_entry(&buf[..have], l.used) {
@@ -210,7 +216,7 @@ fn turn(buf: &mut [u8], out: &mut [u8], memory: &mut [u32], before: Course) -> C
         Reading::Refused(fault, _) => {
             let number = benchlog::fault_number(fault);
             if !l.ended && number == benchlog::fault_number(Fault::Ends) {
-                return moved(course, stdio::read_on(buf, stdio::flush(out, l)));
+                return moved(course, stdio::read_on(rt, buf, stdio::flush(rt, out, l)));
             }
             moved(course, stdio::end(out, l, number))
         }
@@ -219,6 +225,7 @@ fn turn(buf: &mut [u8], out: &mut [u8], memory: &mut [u32], before: Course) -> C
 
 // Shows the start and each entry behind a head.
 fn list_entries(
+    rt: &HostRuntime,
     buf: &mut [u8],
     out: &mut [u8],
     memory: &mut [u32],
@@ -241,11 +248,11 @@ fn list_entries(
     };
     let mut turns = stdio::TURNS;
     while turns > 0 && course.listing.more {
-        course = turn(buf, out, memory, course);
+        course = turn(rt, buf, out, memory, course);
         turns -= 1;
     }
     let listed = course.listing;
-    put_last(out, listed, which, memory)
+    put_last(rt, out, listed, which, memory)
 }
 
 // The module that a head names.
@@ -262,7 +269,13 @@ fn which_of(name: u32) -> Which
 }
 
 // The listing behind its beginning; a refused head is its fault line alone.
-fn list(buf: &mut [u8], out: &mut [u8], memory: &mut [u32], first: Listing) -> Listing
+fn list(
+    rt: &HostRuntime,
+    buf: &mut [u8],
+    out: &mut [u8],
+    memory: &mut [u32],
+    first: Listing,
+) -> Listing
     requires { first.have ≤ length buf.old }
 {
     if !first.more {
@@ -273,7 +286,7 @@ fn list(buf: &mut [u8], out: &mut [u8], memory: &mut [u32], first: Listing) -> L
     if head.answer == 0 {
         let values = head.values;
         let end = modules::lent(which_of(values[0]), values, memory.len());
-        return list_entries(buf, out, &mut memory[..end], first, head);
+        return list_entries(rt, buf, out, &mut memory[..end], first, head);
     }
     stdio::fault(out, first, head.answer)
 }
@@ -288,23 +301,23 @@ fn ends_in_head(buf: &[u8], l: Listing) -> bool
 }
 
 // Begins the listing: reads on until the head is whole or refused, or the input has ended, or a read fails.
-fn begun(buf: &mut [u8]) -> Listing
+fn begun(rt: &HostRuntime, buf: &mut [u8]) -> Listing
     ensures { result.have ≤ length buf.old }
 {
     let mut l = stdio::begin(0);
     let mut turns = stdio::TURNS;
     while turns > 0 && l.more && !l.ended && ends_in_head(buf, l) {
-        l = stdio::read_on(buf, l);
+        l = stdio::read_on(rt, buf, l);
         turns -= 1;
     }
     l
 }
 
 // The whole listing.
-fn run(buf: &mut [u8], out: &mut [u8], memory: &mut [u32]) {
-    let first = begun(buf);
-    let last = list(buf, out, memory, first);
-    stdio::close(out, last);
+fn run(rt: &HostRuntime, buf: &mut [u8], out: &mut [u8], memory: &mut [u32]) {
+    let first = begun(rt, buf);
+    let last = list(rt, buf, out, memory, first);
+    stdio::close(rt, out, last);
 }
 
 // Sets the words to 1, 2, 3 and so on.
@@ -320,10 +333,10 @@ fn count_up(memory: &mut [u32])
 }
 
 // The two buffers, of 64 KiB each, and the words that a V830 may be lent.
-fn main() {
+fn main(rt: HostRuntime) {
     let mut buf = [0u8; 65536];
     let mut out = [0u8; 65536];
     let mut memory = [0u32; 40000];
     count_up(&mut memory);
-    run(&mut buf, &mut out, &mut memory);
+    run(&rt, &mut buf, &mut out, &mut memory);
 }

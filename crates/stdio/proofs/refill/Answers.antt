@@ -1,5 +1,5 @@
 -- Two tests that fail, or the tail moved and more read behind it. Assumes nothing.
-use Rattle.std.proofs.Common.{ℕ, ◌-◌, length, refl, ◌∙◌, arith, rules, le-leb}
+use Rattle.std.proofs.Common.{ℕ, ◌-◌, ◌+◌, ◌≤◌, length, refl, ◌∙◌, arith, rules, le-leb}
 use borrow.Author.Tests.{lt-leb}
 use borrow.Rule.Slice.PartMut.{take_put}
 use Rattle.stdio.proofs.Moving.{nothing_read}
@@ -15,24 +15,24 @@ returns-then-have-buf c =     let a = c.args in
     (search rules, rw (le-leb a.used a.have (omega arith), lt-leb a.have (length a.buf.now) (omega arith)) (refl, refl))
 
 pub returns-in-Ok : goal.returns-in-Ok
-returns-in-Ok c =     let r = c in
-    let s = r in
-    let a = s.args in
-    let moved = s.shift.new.0 in
+returns-in-Ok c =
+    let a = c.args in
+    let moved = c.shift.new.buf in
     let left : ℕ = a.have - a.used in
-    let front = take_put left (length moved - left) moved r.read.new.1.0 (omega (arith, s.shift.auto.0)) ∙ s.shift.ensures in
-    let h = c.unread.ensures.0 in (
-      omega (arith, h),
-      rw (le-leb a.used a.have (omega arith), le-leb a.have (length a.buf.now) (omega arith)) (omega (arith, h), front, c.unread.ensures.1),
+    let front = take_put left (length moved - left) moved c.read.new.buf (omega (arith, c.shift.auto.buf)) ∙ c.shift.ensures in
+    let many : c.in-Ok.n ≤ length c.read.new.buf = c.in-Ok.ensures.bound.0 in
+    let room : left + length c.read.new.buf ≤ length a.buf.now = search (rules, c.shift.auto.buf, c.read.auto.buf) in (
+      omega (arith, many, room),
+      rw (le-leb a.used a.have (omega arith), le-leb a.have (length a.buf.now) (omega arith)) (omega arith, front, nothing_read left c.in-Ok.n),
     )
 
 pub returns-in-Err : goal.returns-in-Err
-returns-in-Err c =     let r = c in
-    let s = r in
-    let a = s.args in
-    let moved = s.shift.new.0 in
+returns-in-Err c =
+    let a = c.args in
+    let moved = c.shift.new.buf in
     let left : ℕ = a.have - a.used in
-    let front = take_put left (length moved - left) moved r.read.new.1.0 (omega (arith, s.shift.auto.0)) ∙ s.shift.ensures in (
-      search rules,
-      rw (le-leb a.used a.have (omega arith), le-leb a.have (length a.buf.now) (omega arith)) (omega arith, front, nothing_read left c.count.result),
+    let front = take_put left (length moved - left) moved c.read.new.buf (omega (arith, c.shift.auto.buf)) ∙ c.shift.ensures in
+    let h = c.unread.ensures.0 in (
+      omega (arith, h),
+      rw (le-leb a.used a.have (omega arith), le-leb a.have (length a.buf.now) (omega arith)) (omega (arith, h), front, c.unread.ensures.1),
     )
