@@ -147,6 +147,9 @@ def loop_params(entry, at):
 def invariant(decl, entry, at):
     """An invariant's or a measure's body over the record l."""
     variables, changed = loop_params(entry, at)
+    # the runtime, which asks the system, came with the installed Rattle
+    kept = [(v, c) for v, c in zip(variables, changed) if v != "rt"]
+    variables, changed = [v for v, _ in kept], [c for _, c in kept]
     body = "\n".join(decl[2])
     found = re.match(r"\s*\S+\s+((?:[^\s=]+\s+)*)=\s?", body)
     given = found.group(1).split()
@@ -182,7 +185,8 @@ def turn(crate, function, entries):
         print(f"{function}: no names")
         return
     with open(folder + "/Proof.antt", encoding="utf-8") as file:
-        comment, uses, decls = blocks(file.read())
+        # port.py took a variable of that name for the word of clauses
+        comment, uses, decls = blocks(file.read().replace("(λ x. x.now)", "now"))
     names = Names(entry)
     uses = [u for u in uses if ".Statement.{" not in u and not u.endswith(".Tie as tie") and "Rules.{rules}" not in u]
     if any("rules" in "\n".join(d[2]) for d in decls):

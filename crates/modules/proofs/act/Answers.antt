@@ -16,4 +16,4 @@ pub returns-in-V830 : goal.returns-in-V830
 returns-in-V830 c =     let s = c in
     let e = s.in-V830.is in
     let d = s.call_830_of.ensures in
-    (rw (e, c.after_830.ensures, s.step.ensures.0, d), rw (e, ← d) s.step.ensures.1)
+    (rw (e, c.after_830.ensures, s.step.ensures.0, d), rw e (rw d at s.step.ensures.1))

@@ -13,7 +13,7 @@ loop-k-init c = (search rules, search rules, search rules, refl, refl)
 pub loop-k-preserved : goal.loop-k-preserved
 loop-k-preserved c =     let l = c.loop-k in
     let a = c.args in
-    (search rules, l.invariant.1, l.invariant.2, search rules, one_count a.t1 l.counts a.from l.k (omega arith) (omega arith) l.invariant.4)
+    (search rules, l.invariant.1, l.invariant.2, search rules, one_count a.values l.counts a.from l.k (omega arith) (omega arith) l.invariant.4)
 
 pub returns : goal.returns
 returns c =     let l = c.loop-k in
