@@ -62,10 +62,12 @@ class Names:
     """The new names of a function's steps; an old step's name stands once in a function."""
 
     def __init__(self, entry):
-        self.steps, self.arms, self.raw, self.missed = {}, [], set(), []
-        for old, _, (step, new), _, facts in entry["places"]:
+        self.steps, self.arms, self.raw, self.missed, self.params = {}, [], set(), [], {}
+        for old, _, (step, new), callee, facts in entry["places"]:
             if step:
                 self.steps.setdefault(step, new)
+            if callee in entry["params"]:
+                self.params[new] = entry["params"][callee]
             if ["true", "true-raw"] in facts or ["false", "false-raw"] in facts:
                 self.raw.add(new)
         for arm in entry["arms"]:
@@ -94,8 +96,19 @@ class Names:
         self.missed.append(".".join(fields))
         return fields
 
+    def by_name(self, new):
+        """What a call leaves, by the parameter's name in place of its number."""
+        if len(new) > 2 and new[0] in self.params and new[1] in ("new", "auto"):
+            at = 0
+            while at + 2 < len(new) and new[at + 2] == "1":
+                at += 1
+            behind = at + 3 if at + 2 < len(new) and new[at + 2] == "0" else at + 2
+            if at < len(self.params[new[0]]):
+                return new[:2] + [self.params[new[0]][at]] + new[behind:]
+        return new
+
     def written(self, var, fields):
-        new = self.path(fields)
+        new = self.by_name(self.path(fields))
         text = ".".join([var] + new)
         if len(new) == 2 and new[0] in self.raw and new[1] in ("true", "false"):
             if new[0].startswith("if-not-"):
