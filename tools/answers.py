@@ -67,7 +67,7 @@ class Names:
             if step:
                 self.steps.setdefault(step, new)
             if callee in entry["params"]:
-                self.params[new] = entry["params"][callee]
+                self.params[new] = [p for p in entry["params"][callee] if p != "rt"]
             if ["true", "true-raw"] in facts or ["false", "false-raw"] in facts:
                 self.raw.add(new)
         for arm in entry["arms"]:
@@ -77,7 +77,7 @@ class Names:
 
     def spellings(self, field):
         plain = re.sub(r"(_lem)+$", "", field)
-        for name in (field, plain):
+        for name in (field, plain, field[:1].lower() + field[1:]):
             for word in (name, name.replace("_", "-"), name.replace("-", "_"), re.sub(r"-?\d+$", "", name)):
                 yield word
 
@@ -117,29 +117,38 @@ class Names:
         return text
 
 
-def turned(text, names, scope):
-    """A body with its old paths turned; scope has the variables that stand for all that is known at a place."""
-    out = []
+def turned(text, names, places):
+    """A body with its old paths turned; of a variable it knows the place, or the call's step, that it stands for."""
+    out, scope = [], {var: None for var in places}
     while text:
-        found = re.search(r"\blet\s+([^\s:=]+)\s*=\s*([A-Za-z_][\w'-]*)((?:\.before)*)\s+in\b", text)
-        if not found or found.group(2) not in scope:
-            found = None
+        found = re.search(r"\blet\s+([^\s:=]+)\s*=\s*([A-Za-z_][\w'-]*)((?:\.[\w'-]+)*)\s+in\b", text)
         upto = found.start() if found else len(text)
         out.append(paths(text[:upto], names, scope))
-        if found:
-            if found.group(1) != found.group(2):
-                out.append(f"let {found.group(1)} = {found.group(2)} in")
-                scope = scope | {found.group(1)}
-            text = text[found.end() :]
+        if not found:
+            break
+        name, var, fields = found.group(1), found.group(2), found.group(3).split(".")[1:]
+        new = names.path(fields) if var in scope and scope[var] is None else None
+        if new == []:
+            if name != var:
+                out.append(f"let {name} = {var} in")
+            scope[name] = None
         else:
-            text = ""
+            out.append(paths(found.group(0), names, scope))
+            scope.pop(name, None)
+            if new and len(new) == 1:
+                scope[name] = new[0]
+        text = text[found.end() :]
     return "".join(out)
 
 
 def paths(text, names, scope):
     def one(found):
         var, fields = found.group(1), found.group(2).split(".")[1:]
-        return names.written(var, fields) if var in scope else found.group(0)
+        if var not in scope:
+            return found.group(0)
+        if scope[var] is None:
+            return names.written(var, fields)
+        return ".".join([var] + names.by_name([scope[var]] + fields)[1:])
 
     return PATH.sub(one, text)
 
@@ -190,6 +199,24 @@ def merged(uses):
     return [f"use {module}.{{{', '.join(dict.fromkeys(words))}}}" for module, words in found.items()] + other
 
 
+def inlined(decl, names, inline):
+    """Keeps a lemma over all that is known at a place, so that it is written out where it was cited."""
+    text = decl[1] + "\n" + "\n".join(decl[2])
+    found = re.match(r"(\S+) : \(c : tie\.[^)]*\)\s*→ (.*?)\n((?:unfolding[^\n]*\n)?)\1 c =\s?(.*)$", text, re.S)
+    if not found or found.group(3):
+        names.missed.append("lemma " + decl[0])
+        return
+    kind, body = found.group(2).strip(), found.group(4).strip()
+    inline[decl[0]] = f"(let h : {outlined(kind, inline)} = {outlined(body, inline)} in h)"
+
+
+def outlined(text, inline):
+    for name, body in inline.items():
+        cited = re.compile(r"(?<![\w.'-])" + re.escape(name) + r" \(?([A-Za-z_][\w'-]*)(?:\.before)*(?![\w'-])(?!\.)\)?")
+        text = cited.sub(lambda m: re.sub(r"(?<![\w.'-])c(?=\.)", m.group(1), body), text)
+    return text
+
+
 def turn(crate, function, entries):
     folder = f"crates/{crate}/proofs/{function}"
     module = function.replace("/", ".")
@@ -206,7 +233,7 @@ def turn(crate, function, entries):
         uses.append("use borrow.Author.Rules.{rules}")
     needs = entry["needs"]
     by_name = {norm(n[0]): i for i, n in enumerate(needs)}
-    answers, invariants, helpers, said = [], [], [], []
+    answers, invariants, helpers, said, inline = [], [], [], [], {}
     order = [d for d in decls if re.search(r": tie\.Need-", d[1])]
     same = len(order) == len(needs)
     loop_at = {}
@@ -242,10 +269,13 @@ def turn(crate, function, entries):
             if rest.strip() == "search rules":
                 continue
             new = needs[i][1]
-            text = turned(rest, names, {"c"})
+            text = turned(outlined(rest, inline), names, {"c"})
             answers.append(f"pub {new} : goal.{new}\n{head.group(1)}{new} c = {text}")
             continue
         if "statement M" in d[1]:
+            continue
+        if "tie." in d[1]:
+            inlined(d, names, inline)
             continue
         helpers.append("\n".join(d[3] + [d[1]] + d[2]))
     head = "\n".join(comment) + ("\n" if comment else "")
