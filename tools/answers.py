@@ -63,6 +63,8 @@ class Names:
 
     def __init__(self, entry):
         self.steps, self.arms, self.raw, self.missed, self.params = {}, [], set(), [], {}
+        parts = [[side.replace(" ", "").split(".")[1:] for side in pair] for pair in entry["args"]]
+        self.args = {tuple(old): new for old, new in parts}
         for old, _, (step, new), callee, facts in entry["places"]:
             if step:
                 self.steps.setdefault(step, new)
@@ -85,7 +87,11 @@ class Names:
         """The new fields of an old path, and whether it is a place, a record with all that is known there."""
         while fields and fields[0] == "before":
             fields = fields[1:]
-        if not fields or fields[0] in ("args", "requires", "ranges"):
+        if fields and fields[0] == "well_formed_lem":
+            fields = ["well_formed"] + fields[1:]
+        if tuple(fields[:2]) in self.args:
+            fields = self.args[tuple(fields[:2])] + fields[2:]
+        if not fields or fields[0] in ("args", "requires", "ranges", "well_formed"):
             return fields
         for field in self.spellings(fields[0]):
             for step, path, new in self.arms:
@@ -212,8 +218,9 @@ def inlined(decl, names, inline):
 
 def outlined(text, inline):
     for name, body in inline.items():
-        cited = re.compile(r"(?<![\w.'-])" + re.escape(name) + r" \(?([A-Za-z_][\w'-]*)(?:\.before)*(?![\w'-])(?!\.)\)?")
-        text = cited.sub(lambda m: re.sub(r"(?<![\w.'-])c(?=\.)", m.group(1), body), text)
+        one = r"([A-Za-z_][\w'-]*)(?:\.before)*(?![\w'-])(?!\.)"
+        cited = re.compile(r"(?<![\w.'-])" + re.escape(name) + r" (?:\(" + one + r"\)|" + one + ")")
+        text = cited.sub(lambda m: re.sub(r"(?<![\w.'-])c(?=\.)", m.group(1) or m.group(2), body), text)
     return text
 
 

@@ -13,17 +13,23 @@ unmapped X Y f l n e = sym (length-map l f) ∙ e
 
 -- so many of a list, as far as it has them
 pub within : (k many : ℕ) (ls : List Line) → k < many → k < length ls → k < length (take many ls)
+within zero zero ls p q = elim p [ ]
+within (suc k) zero ls p q = elim p [ ]
+within zero (suc many) [] p q = elim q [ ]
+within (suc k) (suc many) [] p q = elim q [ ]
 within zero (suc many) (l ∷ ls) p q = omega arith
 within (suc k) (suc many) (l ∷ ls) p q = let h = within k many ls (omega arith) (omega arith) in omega (arith, h)
 
 pub short : (k many : ℕ) (ls : List Line) → many ≤ k → length (take many ls) ≤ k
 short k zero ls p = omega arith
 short k (suc many) [] p = omega arith
+short zero (suc many) (l ∷ ls) p = elim p [ ]
 short (suc k) (suc many) (l ∷ ls) p = let h = short k many ls (omega arith) in omega (arith, h)
 
 pub short_of : (k many : ℕ) (ls : List Line) → length ls ≤ k → length (take many ls) ≤ k
 short_of k zero ls p = omega arith
 short_of k (suc many) [] p = omega arith
+short_of zero (suc many) (l ∷ ls) p = elim p [ ]
 short_of (suc k) (suc many) (l ∷ ls) p = let h = short_of k many ls (omega arith) in omega (arith, h)
 
 module _ (pulses many k : ℕ) (b : Bench) (memory : Memory) (ls : List Line) where

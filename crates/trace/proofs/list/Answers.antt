@@ -1,0 +1,10 @@
+-- What is had of the input lies within its buffer. Assumes nothing.
+use Rattle.std.proofs.Common.{length, sym, arith, length-take-le, rules}
+use borrow.Author.Rules.{rules}
+use Rattle.trace.proofs.list.Goals as goal
+
+pub slice_bounds-head_in-end-2 : goal.slice_bounds-head_in-end-2
+slice_bounds-head_in-end-2 c = sym (length-take-le _ _ c.requires)
+
+pub slice_bounds-list_entries-end-then-head-eq0 : goal.slice_bounds-list_entries-end-then-head-eq0
+slice_bounds-list_entries-end-then-head-eq0 c = sym (length-take-le _ _ c.lent-end.ensures.1)
