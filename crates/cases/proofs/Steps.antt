@@ -67,4 +67,5 @@ module _ (pulses many k : ℕ) (b : Bench) (memory : Memory) (ls : List Line) wh
 -- so many of more zeros
 pub zeros : (n m : ℕ) → n ≤ m → take n (replicate {A = ℕ} m 0) ≡ replicate n 0
 zeros zero m h = refl
+zeros (suc n) zero h = elim h [ ]
 zeros (suc n) (suc m) h = ap (λ (l : List ℕ). 0 ∷ l) (zeros n m (omega arith))

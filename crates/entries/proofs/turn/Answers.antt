@@ -26,12 +26,12 @@ slice_bounds-read_entry-end c = (let h : c.make_room-l.result.have ≤ length c.
 pub slice_bounds-read_entry-end-2 : goal.slice_bounds-read_entry-end-2
 slice_bounds-read_entry-end-2 c = let m = c in sym (length-take-le m.make_room-l.result.have m.args.buf.now ((let h : m.make_room-l.result.have ≤ length m.args.buf.now = let s = m in
     let r = m.make_room-l.result in
-    rw (roomy_same s.args.before r r.amiss (length s.args.out.now) 126 m.make_room-l.ensures).1 s.requires in h))
+    rw (roomy_same s.args.before r r.amiss (length s.args.out.now) 126 m.make_room-l.ensures).1 s.requires in h)))
 
 pub returns-then-e-eq0 : goal.returns-then-e-eq0
 returns-then-e-eq0 c = omega (arith, c.listed.ensures, (let h : c.make_room-l.result.have ≤ length c.args.buf.now = let s = c in
     let r = c.make_room-l.result in
-    rw (roomy_same s.args.before r r.amiss (length s.args.out.now) 126 c.make_room-l.ensures).1 s.requires in h)
+    rw (roomy_same s.args.before r r.amiss (length s.args.out.now) 126 c.make_room-l.ensures).1 s.requires in h))
 
 pub returns-then-e-fault_number : goal.returns-then-e-fault_number
 returns-then-e-fault_number c =     let r = c in
@@ -40,11 +40,11 @@ returns-then-e-fault_number c =     let r = c in
     let l = f.flush.result in
     read_had _ r.read_on.new.buf l r.read_on.result (rw (written_same m.make_room-l.result l l.amiss f.flush.ensures).1 ((let h : m.make_room-l.result.have ≤ length m.args.buf.now = let s = m in
     let r = m.make_room-l.result in
-    rw (roomy_same s.args.before r r.amiss (length s.args.out.now) 126 m.make_room-l.ensures).1 s.requires in h)) r.read-on.ensures
+    rw (roomy_same s.args.before r r.amiss (length s.args.out.now) 126 m.make_room-l.ensures).1 s.requires in h))) r.read_on.ensures
 
 pub returns : goal.returns
 returns c =     let e = c in
     let m = e in
     rw (end_same m.make_room-l.result e.end.result m.args.out.now e.numbers_of-e.result.answer e.end.ensures.0).1 ((let h : m.make_room-l.result.have ≤ length m.args.buf.now = let s = m in
     let r = m.make_room-l.result in
-    rw (roomy_same s.args.before r r.amiss (length s.args.out.now) 126 m.make_room-l.ensures).1 s.requires in h)
+    rw (roomy_same s.args.before r r.amiss (length s.args.out.now) 126 m.make_room-l.ensures).1 s.requires in h))

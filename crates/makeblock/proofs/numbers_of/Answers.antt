@@ -8,5 +8,5 @@ use Rattle.makeblock.proofs.numbers_of.Goals as goal
 
 pub returns : goal.returns
 returns c =     let a = c.args in
-    let n : length a.t1 ≡ 64 = search rules in
-    c.put_words.ensures.1 ∙ put_end [] (replicate 64 0) a.t1 (sym n)
+    let n : length a.words ≡ 64 = search rules in
+    c.put_words.ensures.1 ∙ put_end [] (replicate 64 0) a.words (sym n)

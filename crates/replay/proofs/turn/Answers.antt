@@ -15,7 +15,7 @@ overflow_add-l c = omega (arith, (let h : let l = c.args.course.listing in
     let l = a.course.listing in
     let u = part_used c.replay-part.result a.out.now l.ended (take (l.have - l.used) (drop l.used a.buf.now)) a.course.night (lent a.memory.now) c.replay-part.ensures.0 in
     let e = length-take-le (l.have - l.used) (drop l.used a.buf.now) (omega (arith, length-drop l.used a.buf.now)) in
-    omega (arith, u, e) in h), c.requires.1, c.well_formed_lem.0)
+    omega (arith, u, e) in h), c.requires.1, c.well_formed.0)
 
 pub gone_on-requires : goal.gone_on-requires
 gone_on-requires c =     let f = c in
@@ -28,4 +28,4 @@ gone_on-requires c =     let f = c in
     let l = a.course.listing in
     let u = part_used r.replay-part.result a.out.now l.ended (take (l.have - l.used) (drop l.used a.buf.now)) a.course.night (lent a.memory.now) r.replay-part.ensures.0 in
     let e = length-take-le (l.have - l.used) (drop l.used a.buf.now) (omega (arith, length-drop l.used a.buf.now)) in
-    omega (arith, u, e) in h), rw same.1 s.requires.1)
+    omega (arith, u, e) in h)), rw same.1 s.requires.1)

@@ -5,6 +5,7 @@ use borrow.Author.Rules.{rules}
 use mathlib.Core.Path.{ap}
 use mathlib.Core.Bool.{not}
 use Rattle.cases.proofs.running.admitted_by.Goals as goal
+use Rattle.cases.proofs.running.admitted_by.Goals.{else-reply-eq0-via-then-reply-eq0+else-not-is_inhibited, else-reply-eq0-via-else-reply-eq0}
 
 pub returns-then-not-is_inhibited : goal.returns-then-not-is_inhibited
 returns-then-not-is_inhibited c =     let i = c in
@@ -13,7 +14,8 @@ returns-then-not-is_inhibited c =     let i = c in
 
 pub returns-else-reply-eq0 : goal.returns-else-reply-eq0
 returns-else-reply-eq0 c =     let n = c.numbered-reply.ensures in
-    ⊎_elim
-    (λ w. rw (eq-eqb _ _ (rw n at w.0.taken), sym w.1.ensures ∙ not-false w.1.result w.2.left))
-    (λ w. rw (ne_eqb _ _ (rw n at w.left)))
-    c.if-reply-eq0.branch
+    elim c.else-reply-eq0.branch [
+      else-reply-eq0-via-then-reply-eq0+else-not-is_inhibited w ↦
+        rw (eq-eqb _ _ (rw n at w.if-reply-eq0.true), sym w.is_inhibited.ensures ∙ not-false w.is_inhibited.result (ap not w.if-not-is_inhibited.false))
+    | else-reply-eq0-via-else-reply-eq0 w ↦ rw (ne_eqb _ _ (rw n at w.if-reply-eq0.false))
+    ]

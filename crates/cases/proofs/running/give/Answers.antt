@@ -6,4 +6,4 @@ use Rattle.cases.proofs.running.give.Goals as goal
 pub returns : goal.returns
 returns c =     let n = c in
     let a = n in
-    (rw (c.wrapping_add_u32-pulses.ensures, c.admitted_by.ensures, n.numbered-reply.ensures, a.act-held.ensures.0), a.act-held.ensures.1)
+    (rw (c.wrapping_add_u32-pulses.ensures.value, c.admitted_by.ensures, n.numbered-reply.ensures, a.act-held.ensures.0), a.act-held.ensures.1)
