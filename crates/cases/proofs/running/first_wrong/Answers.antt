@@ -7,6 +7,7 @@ use borrow.Author.Rules.{rules}
 use mathlib.Core.Path.{ap}
 use mathlib.Core.Bool.{not}
 use Rattle.cases.proofs.running.first_wrong.Goals as goal
+use Rattle.cases.proofs.running.first_wrong.Goals.{then-loop-k-test+else-k-lt10, else-loop-k-test}
 
 pub loop-k-init : goal.loop-k-init
 loop-k-init c = (search rules, refl, refl)
@@ -19,7 +20,7 @@ returns-then-not-is_expected c =     let i = c in
     let g = s in
     let a = g.args in
     let n = (let h : length g.args.c.lines ≡ 10 = search (unmapped, rules) in h) in
-    let h : l.k < 10 = ltb-true l.k 10 s.if-k-lt10.true-raw in
+    let h : l.k < 10 = s.if-k-lt10.true in
     sym
     (one_wrong a.c.pulses a.c.many l.k l.b (lent l.memory) a.c.lines _ s.loop-k-test.true (omega arith) t.turn-t.result t.turn-t.ensures.0
     (sym i.is_expected.ensures ∙ not-true i.is_expected.result (ap not c.if-not-is_expected.true)))
@@ -29,7 +30,7 @@ returns-then-not-is_expected c =     let i = c in
 pub loop-k-smaller : goal.loop-k-smaller
 loop-k-smaller c =     let s = c in
     let l = s.loop-k in
-    let h : l.k < 10 = ltb-true l.k 10 s.if-k-lt10.true-raw in
+    let h : l.k < 10 = s.if-k-lt10.true in
     let m : 10 - (l.k + 1) < 10 - l.k = omega arith in
     m
 
@@ -41,7 +42,7 @@ loop-k-preserved c =     let i = c in
     let g = s in
     let a = g.args in
     let n = (let h : length g.args.c.lines ≡ 10 = search (unmapped, rules) in h) in
-    let h : l.k < 10 = ltb-true l.k 10 s.if-k-lt10.true-raw in (
+    let h : l.k < 10 = s.if-k-lt10.true in (
       omega arith,
       search rules,
       one_right a.c.pulses a.c.many l.k l.b (lent l.memory) a.c.lines _ s.loop-k-test.true (omega arith) t.turn-t.result t.turn-t.ensures.0
@@ -56,10 +57,10 @@ returns-then-b-c c =     let j = c in
     let a = g.args in
     let n = (let h : length g.args.c.lines ≡ 10 = search (unmapped, rules) in h) in
     let over : length (take a.c.many a.c.lines) ≤ l.k =
-    ⊎_elim
-    (λ w. short_of l.k a.c.many a.c.lines (rw n (ltb-false l.k 10 w.1.left)))
-    (λ w. short l.k a.c.many a.c.lines w.left)
-    j.loop-k-test.branch in
+    elim j.loop-k-test.branch [
+      then-loop-k-test+else-k-lt10 w ↦ short_of l.k a.c.many a.c.lines (rw n w.if-k-lt10.false)
+    | else-loop-k-test w ↦ short l.k a.c.many a.c.lines w.loop-k-test.false
+    ] in
     sym (all_right a.c.pulses a.c.many l.k l.b (lent l.memory) a.c.lines over c.if-b-c.true) ∙ l.invariant.2 ∙ rw g.begin-held.ensures
 
 pub returns-else-b-c : goal.returns-else-b-c
@@ -69,8 +70,8 @@ returns-else-b-c c =     let j = c in
     let a = g.args in
     let n = (let h : length g.args.c.lines ≡ 10 = search (unmapped, rules) in h) in
     let over : length (take a.c.many a.c.lines) ≤ l.k =
-    ⊎_elim
-    (λ w. short_of l.k a.c.many a.c.lines (rw n (ltb-false l.k 10 w.1.left)))
-    (λ w. short l.k a.c.many a.c.lines w.left)
-    j.loop-k-test.branch in
+    elim j.loop-k-test.branch [
+      then-loop-k-test+else-k-lt10 w ↦ short_of l.k a.c.many a.c.lines (rw n w.if-k-lt10.false)
+    | else-loop-k-test w ↦ short l.k a.c.many a.c.lines w.loop-k-test.false
+    ] in
     sym (not_admitted a.c.pulses a.c.many l.k l.b (lent l.memory) a.c.lines over c.if-b-c.false) ∙ l.invariant.2 ∙ rw g.begin-held.ensures
