@@ -209,25 +209,25 @@ one_v560_by_value_step κ given first second e d p q = determined p q
 pub one_v560_start : OneResult v560-start.Post
 one_v560_start κ given first second e d p q = determined p q
 
-pub one_v560_in_place_access : {M : Type 1} → OneLent {M = M} v560-in-place-access.ended v560-in-place-access.clauses (λ κ e. e.1.0.now)
+pub one_v560_in_place_access : {M : Type 1} → OneLent {M = M} v560-in-place-access.ended (λ 𝓤. v560-in-place-access.clauses {𝓤 = 𝓤}) (λ κ e. e.1.0.now)
 one_v560_in_place_access 𝓤 𝓛 mem run κ given g first second e d = both_determined 𝓤 _ _ _ _ _ _
 
-pub one_v560_in_place_pulses : {M : Type 1} → OneLent {M = M} v560-in-place-pulses.ended v560-in-place-pulses.clauses (λ κ e. e.1.0.now)
+pub one_v560_in_place_pulses : {M : Type 1} → OneLent {M = M} v560-in-place-pulses.ended (λ 𝓤. v560-in-place-pulses.clauses {𝓤 = 𝓤}) (λ κ e. e.1.0.now)
 one_v560_in_place_pulses 𝓤 𝓛 mem run κ given g first second e d = both_determined 𝓤 _ _ _ _ _ _
 
-pub one_v560_in_place_test : {M : Type 1} → OneLent {M = M} v560-in-place-test.ended v560-in-place-test.clauses (λ κ e. e.1.0.now)
+pub one_v560_in_place_test : {M : Type 1} → OneLent {M = M} v560-in-place-test.ended (λ 𝓤. v560-in-place-test.clauses {𝓤 = 𝓤}) (λ κ e. e.1.0.now)
 one_v560_in_place_test 𝓤 𝓛 mem run κ given g first second e d = both_determined 𝓤 _ _ _ _ _ _
 
-pub one_v560_in_place_clear_line : {M : Type 1} → OneLent {M = M} v560-in-place-clear-line.ended v560-in-place-clear-line.clauses (λ κ e. e.1.0.now)
+pub one_v560_in_place_clear_line : {M : Type 1} → OneLent {M = M} v560-in-place-clear-line.ended (λ 𝓤. v560-in-place-clear-line.clauses {𝓤 = 𝓤}) (λ κ e. e.1.0.now)
 one_v560_in_place_clear_line 𝓤 𝓛 mem run κ given g first second e d = both_determined 𝓤 _ _ _ _ _ _
 
-pub one_v560_in_place_veto_line : {M : Type 1} → OneLent {M = M} v560-in-place-veto-line.ended v560-in-place-veto-line.clauses (λ κ e. e.1.0.now)
+pub one_v560_in_place_veto_line : {M : Type 1} → OneLent {M = M} v560-in-place-veto-line.ended (λ 𝓤. v560-in-place-veto-line.clauses {𝓤 = 𝓤}) (λ κ e. e.1.0.now)
 one_v560_in_place_veto_line 𝓤 𝓛 mem run κ given g first second e d = both_determined 𝓤 _ _ _ _ _ _
 
-pub one_v560_in_place_man_clr : {M : Type 1} → OneLent {M = M} v560-in-place-man-clr.ended v560-in-place-man-clr.clauses (λ κ e. e.1.0.now)
+pub one_v560_in_place_man_clr : {M : Type 1} → OneLent {M = M} v560-in-place-man-clr.ended (λ 𝓤. v560-in-place-man-clr.clauses {𝓤 = 𝓤}) (λ κ e. e.1.0.now)
 one_v560_in_place_man_clr 𝓤 𝓛 mem run κ given g first second e d = both_determined 𝓤 _ _ _ _ _ _
 
-pub one_v560_in_place_step : {M : Type 1} → OneLent {M = M} v560-in-place-step.ended v560-in-place-step.clauses (λ κ e. e.1.0.now)
+pub one_v560_in_place_step : {M : Type 1} → OneLent {M = M} v560-in-place-step.ended (λ 𝓤. v560-in-place-step.clauses {𝓤 = 𝓤}) (λ κ e. e.1.0.now)
 one_v560_in_place_step 𝓤 𝓛 mem run κ given g first second e d = both_determined 𝓤 _ _ _ _ _ _
 
 -- ---- v260
@@ -255,25 +255,25 @@ one_v260_by_value_step κ given first second e d p q = determined p q
 pub one_v260_start : OneResult v260-start.Post
 one_v260_start κ given first second e d p q = determined p q
 
-pub one_v260_in_place_access : {M : Type 1} → OneLent {M = M} v260-in-place-access.ended v260-in-place-access.clauses (λ κ e. e.1.0.now)
+pub one_v260_in_place_access : {M : Type 1} → OneLent {M = M} v260-in-place-access.ended (λ 𝓤. v260-in-place-access.clauses {𝓤 = 𝓤}) (λ κ e. e.1.0.now)
 one_v260_in_place_access 𝓤 𝓛 mem run κ given g first second e d = both_determined 𝓤 _ _ _ _ _ _
 
-pub one_v260_in_place_pulses : {M : Type 1} → OneLent {M = M} v260-in-place-pulses.ended v260-in-place-pulses.clauses (λ κ e. e.1.0.now)
+pub one_v260_in_place_pulses : {M : Type 1} → OneLent {M = M} v260-in-place-pulses.ended (λ 𝓤. v260-in-place-pulses.clauses {𝓤 = 𝓤}) (λ κ e. e.1.0.now)
 one_v260_in_place_pulses 𝓤 𝓛 mem run κ given g first second e d = both_determined 𝓤 _ _ _ _ _ _
 
-pub one_v260_in_place_test : {M : Type 1} → OneLent {M = M} v260-in-place-test.ended v260-in-place-test.clauses (λ κ e. e.1.0.now)
+pub one_v260_in_place_test : {M : Type 1} → OneLent {M = M} v260-in-place-test.ended (λ 𝓤. v260-in-place-test.clauses {𝓤 = 𝓤}) (λ κ e. e.1.0.now)
 one_v260_in_place_test 𝓤 𝓛 mem run κ given g first second e d = both_determined 𝓤 _ _ _ _ _ _
 
-pub one_v260_in_place_clear_line : {M : Type 1} → OneLent {M = M} v260-in-place-clear-line.ended v260-in-place-clear-line.clauses (λ κ e. e.1.0.now)
+pub one_v260_in_place_clear_line : {M : Type 1} → OneLent {M = M} v260-in-place-clear-line.ended (λ 𝓤. v260-in-place-clear-line.clauses {𝓤 = 𝓤}) (λ κ e. e.1.0.now)
 one_v260_in_place_clear_line 𝓤 𝓛 mem run κ given g first second e d = both_determined 𝓤 _ _ _ _ _ _
 
-pub one_v260_in_place_veto_line : {M : Type 1} → OneLent {M = M} v260-in-place-veto-line.ended v260-in-place-veto-line.clauses (λ κ e. e.1.0.now)
+pub one_v260_in_place_veto_line : {M : Type 1} → OneLent {M = M} v260-in-place-veto-line.ended (λ 𝓤. v260-in-place-veto-line.clauses {𝓤 = 𝓤}) (λ κ e. e.1.0.now)
 one_v260_in_place_veto_line 𝓤 𝓛 mem run κ given g first second e d = both_determined 𝓤 _ _ _ _ _ _
 
-pub one_v260_in_place_man_clr : {M : Type 1} → OneLent {M = M} v260-in-place-man-clr.ended v260-in-place-man-clr.clauses (λ κ e. e.1.0.now)
+pub one_v260_in_place_man_clr : {M : Type 1} → OneLent {M = M} v260-in-place-man-clr.ended (λ 𝓤. v260-in-place-man-clr.clauses {𝓤 = 𝓤}) (λ κ e. e.1.0.now)
 one_v260_in_place_man_clr 𝓤 𝓛 mem run κ given g first second e d = both_determined 𝓤 _ _ _ _ _ _
 
-pub one_v260_in_place_step : {M : Type 1} → OneLent {M = M} v260-in-place-step.ended v260-in-place-step.clauses (λ κ e. e.1.0.now)
+pub one_v260_in_place_step : {M : Type 1} → OneLent {M = M} v260-in-place-step.ended (λ 𝓤. v260-in-place-step.clauses {𝓤 = 𝓤}) (λ κ e. e.1.0.now)
 one_v260_in_place_step 𝓤 𝓛 mem run κ given g first second e d = both_determined 𝓤 _ _ _ _ _ _
 
 -- ---- v830
@@ -383,5 +383,5 @@ one_stdio_stop κ given first second e d p q = determined p q
 pub one_stdio_fault : OneOutcome stdio-fault.Post (λ κ e. e.0.now)
 one_stdio_fault κ given first second e d p q = (determined p.0 q.0, determined p.1 q.1)
 
-pub one_stdio_close : OneContent stdio-close.Post (λ κ e. e.0.now)
+pub one_stdio_close : OneContent stdio-close.Post (λ κ e. e.1.0.now)
 one_stdio_close κ given first second e d p q = determined p q

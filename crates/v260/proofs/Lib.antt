@@ -4,4 +4,4 @@ pub mod Stepping
 pub mod ScaleHolds
 pub mod Numbering
 pub mod Forms
--- pub mod Untouched
+pub mod Untouched

@@ -3,4 +3,4 @@ pub mod Single
 pub mod ScaleHolds
 pub mod Numbering
 pub mod Forms
--- pub mod Untouched
+pub mod Untouched
