@@ -61,7 +61,7 @@ exact : {number : ℕ} (lines : List TableLine) → Numbered lines → number �
 exact lines m e =
     record {
       refused = λ n z. ((λ f. number_of_first lines n z (sym e ∙ f)), λ f. e ∙ first_holds f);
-      not_refused_lem = ((λ f. no_number m (sym e ∙ f)), λ f. e ∙ none_holds f);
+      not_refused = ((λ f. no_number m (sym e ∙ f)), λ f. e ∙ none_holds f);
     }
 
 -- ---- a link of a chain beside its line

@@ -35,7 +35,7 @@ pub data NoneHolds : List TableLine → Type 0 where
 -- this number is what the lines say: n exactly when n's line is the first that holds, and 0 exactly when none does
 pub record Exact (number : ℕ) (lines : List TableLine) : Type 0 where
   pub refused : (n : ℕ) → n ≢ 0 → (number ≡ n ↔ First lines n)
-  pub not_refused_lem : number ≡ 0 ↔ NoneHolds lines
+  pub not_refused : number ≡ 0 ↔ NoneHolds lines
 
 -- ---- the block reader
 -- there is a word at this place, and this holds of it

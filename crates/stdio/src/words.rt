@@ -32,10 +32,15 @@ pub(crate) fn failed(rt: &HostRuntime, what: &[u8], error: io::Error) -> u32 {
     };
     let mut words = [0u8; 256];
     let from = text::put_text(&mut words, 0, what);
-    let behind = text::put_number(&mut words, from, number as u64);
-    let at = put_name(&mut words, behind, error);
-    complain(rt, &words, at);
+    let at = text::put_number(&mut words, from, number as u64);
+    fail(rt, &mut words, at, error);
     number
+}
+
+// Writes the first `at` bytes to standard error, and behind them what the system calls an error.
+fn fail(rt: &HostRuntime, words: &mut [u8], at: usize, error: io::Error) {
+    let end = put_name(words, at, error);
+    complain(rt, words, end);
 }
 
 // Puts a colon, what the system calls an error, and a line feed.

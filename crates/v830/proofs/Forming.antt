@@ -1,4 +1,4 @@
--- What a well_formed_lem module has: GEO, capacity, first place and stored words within their bounds. Assumes nothing.
+-- What a well-formed module has: GEO, capacity, first place and stored words within their bounds. Assumes nothing.
 use Prim.Native.Nat.{◌<◌, ◌≤◌}
 use mathlib.Core.Path.{◌≡◌}
 use mathlib.Core.Bool.{true, ◌&&◌}

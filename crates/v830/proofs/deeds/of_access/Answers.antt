@@ -1,4 +1,4 @@
--- The two cases of the look_up. Assumes nothing.
+-- The two cases of the look-up. Assumes nothing.
 use mathlib.Core.Path.{sym, ◌∙◌}
 use borrow.Author.Rules.{rules}
 use Rattle.v830.proofs.deeds.of_access.Goals as goal

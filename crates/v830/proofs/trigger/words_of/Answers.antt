@@ -1,4 +1,4 @@
--- The event of a well_formed_lem module can be written (`event_writable`), and 33 words are enough (`longest`). Assumes
+-- The event of a well-formed module can be written (`event_writable`), and 33 words are enough (`longest`). Assumes
 -- nothing.
 use mathlib.Core.Path.{◌≡◌, ◌∙◌, ap}
 use mathlib.Core.List.{List}

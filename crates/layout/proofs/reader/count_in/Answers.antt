@@ -1,6 +1,0 @@
--- The two formats. Assumes nothing.
-use borrow.Author.Rules.{rules}
-use Rattle.layout.proofs.reader.count_in.Goals as goal
-
-pub returns-then-short : goal.returns-then-short
-returns-then-short c = rw c.if-short.true
