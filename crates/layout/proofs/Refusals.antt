@@ -2,7 +2,7 @@
 -- either one's number comes with the value 0. That each number is given exactly when its line of document 01's table
 -- holds and no earlier one does is proved in ExactNumbers. Assumes nothing.
 use mathlib.Core.Path.{◌≡◌, refl, sym}
-use mathlib.Core.Bool.{true, false, false≢true}
+use mathlib.Core.Bool.{false, false≢true}
 use mathlib.Core.List.{List}
 use Prim.Native.Nat.{ℕ}
 use Rattle.layout.specs.declared.Answer.{Answer}

@@ -1,7 +1,7 @@
 -- Well formed or not, a module stays so, for both modules (document 01, "Numbers that come back", 12): no call makes
 -- of a well-formed state and interrupter ones that get 12, and ones that get 12 get it from then on. Assumes nothing.
 use Prim.Native.Nat.{ℕ, zero, suc}
-use mathlib.Core.Path.{◌≡◌, refl, ap, ◌∙◌}
+use mathlib.Core.Path.{◌≡◌, ◌∙◌}
 use mathlib.Core.Bool.{true, false, ◌||◌}
 use mathlib.Core.List.{List, [], ◌∷◌}
 use lib.Dec.{ltb}

@@ -3,7 +3,7 @@
 -- 11, 4 does. Assumes nothing.
 use Prim.Native.Nat.{ℕ}
 use mathlib.Core.Path.{◌≡◌, sym, ap, ◌∙◌}
-use mathlib.Core.Bool.{Bool, false, cond, ◌||◌, false≢true}
+use mathlib.Core.Bool.{Bool, cond, ◌||◌, false≢true}
 use mathlib.Core.List.{List}
 use lib.Dec.{eqb, ltb}
 use Rattle.count.specs.Counter.{iterate}

@@ -1,13 +1,13 @@
 -- The V260 stays well formed (document 01, 12: "a count above its width", "level above 7"): what Formed asks of its
 -- own calls; the theorems follow. And a start that is refused. Assumes nothing.
-use Prim.Native.Nat.{ℕ, zero, suc, ◌+◌, ◌%◌, ◌^◌, ◌≤◌, ◌<◌}
+use Prim.Native.Nat.{ℕ, zero, suc, ◌^◌, ◌≤◌, ◌<◌}
 use mathlib.Core.Path.{◌≡◌, refl}
-use mathlib.Core.Bool.{Bool, true, false, cond, ◌&&◌}
+use mathlib.Core.Bool.{Bool, true, cond, ◌&&◌}
 use mathlib.Core.List.{List, [], ◌∷◌, map}
 use native.Mathlib.Omega.{arith}
 use native.Mathlib.Decide.{dec_lt}
 use borrow.Author.Tests.{lt-ltb, le-ltb, lt-leb, le-leb}
-use lib.Dec.{eqb, ltb, leb}
+use lib.Dec.{eqb, ltb}
 use lib.ListN.{get_or, set, replicate}
 use Rattle.count.specs.Counter.{next, carries}
 use Rattle.bus.specs.declared.Access.{Access}
@@ -28,7 +28,6 @@ use Rattle.scaler.specs.Module.{called_of}
 use Rattle.scaler.proofs.Formed.{Well, Reaching, Forming, formed_stays, formed_lasts, malformed_lasts}
 use Rattle.v260.specs.declared.Switches.{Switches}
 use Rattle.v260.specs.declared.V260.{V260}
-use Rattle.v260.specs.declared.Outcome.{Outcome}
 use Rattle.v260.specs.Outcomes.{refused, done, fits, is_formed, start_of}
 use Rattle.v260.specs.Counting.{after, is_joined, unjoined, pulsed, counted, tested}
 use Rattle.v260.specs.Registers.{registers, obey}

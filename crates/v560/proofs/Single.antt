@@ -1,9 +1,9 @@
 -- A channel of the V560 whose section is not joined, as a scale of one: what every call that does not clear does to
 -- it. Assumes nothing.
-use Prim.Native.Nat.{ℕ, ◌+◌, ◌-◌, ◌/◌, ◌%◌, ◌<◌}
+use Prim.Native.Nat.{ℕ, ◌-◌, ◌/◌, ◌%◌, ◌<◌}
 use mathlib.Core.Path.{◌≡◌, refl, sym, ap, ◌∙◌}
 use mathlib.Core.Bool.{true, false, false≢true}
-use mathlib.Core.List.{List, [], ◌∷◌, map}
+use mathlib.Core.List.{[], ◌∷◌, map}
 use native.Mathlib.Omega.{arith}
 use borrow.Author.Tests.{eqb-true, ne_eqb}
 use lib.Dec.{eqb}
@@ -21,7 +21,7 @@ use Rattle.scaler.proofs.Runs.{among, Run, run_ticks, others_stay, length_clocke
 use Rattle.v560.specs.declared.V560.{V560}
 use Rattle.v560.specs.declared.Outcome.{Outcome}
 use Rattle.v560.specs.Outcomes.{refused, done}
-use Rattle.v560.specs.Counting.{is_joined, is_low, is_high, unjoined, pulsed, counted, tested}
+use Rattle.v560.specs.Counting.{is_joined, is_low, unjoined, pulsed, counted, tested}
 use Rattle.v560.proofs.Stepping.{inside, row_does}
 
 -- a module with sixteen counts in which the section of channel k is not joined

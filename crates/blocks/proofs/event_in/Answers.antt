@@ -1,7 +1,6 @@
 -- The words lent are as many as there are. Assumes nothing.
-use Rattle.std.proofs.Common.{sym, arith, length-take-le, rules}
+use Rattle.std.proofs.Common.{sym, arith, length-take-le}
 use Rattle.blocks.specs.Words.{words_in}
-use borrow.Author.Rules.{rules}
 use Rattle.blocks.proofs.event_in.Goals as goal
 
 pub slice_bounds-read_event-end : goal.slice_bounds-read_event-end
@@ -9,5 +8,5 @@ slice_bounds-read_event-end c = sym (length-take-le c.whole_words-many.result c.
 
 pub returns : goal.returns
 unfolding words_in
-returns c =     let w = c in
+returns c = let w = c in
     rw (c.read_event.ensures, w.words_of-words.ensures, w.whole_words-many.ensures.0)

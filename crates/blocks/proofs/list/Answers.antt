@@ -1,6 +1,5 @@
 -- What is had of the input lies within its buffer. Assumes nothing.
-use Rattle.std.proofs.Common.{sym, length-take-le, rules}
-use borrow.Author.Rules.{rules}
+use Rattle.std.proofs.Common.{sym, length-take-le}
 use Rattle.blocks.proofs.list.Goals as goal
 
 pub slice_bounds-read_head-end-2 : goal.slice_bounds-read_head-end-2

@@ -1,7 +1,6 @@
 -- The buffers keep their lengths, and what is had of the input lies within its buffer; the measure is a count of
 -- turns. Assumes nothing.
-use Rattle.std.proofs.Common.{◌≡◌, ◌≤◌, length, rules}
-use borrow.Author.Rules.{rules}
+use Rattle.std.proofs.Common.{◌≡◌, ◌≤◌, length}
 use Rattle.blocks.proofs.list_events.Given as goal
 
 abbrev pub invariant-loop-turns : goal.invariant-loop-turns

@@ -1,7 +1,6 @@
 -- The listing keeps what is had of the input. Assumes nothing.
-use Rattle.std.proofs.Common.{ap, rules}
+use Rattle.std.proofs.Common.{ap}
 use Rattle.stdio.specs.declared.Listing.{Listing}
-use borrow.Author.Rules.{rules}
 use Rattle.blocks.proofs.listed.Goals as goal
 
 pub returns-then-reply-ne0 : goal.returns-then-reply-ne0

@@ -6,6 +6,6 @@ use borrow.Author.Rules.{rules}
 use Rattle.blocks.proofs.numbers_of.Goals as goal
 
 pub returns : goal.returns
-returns c =     let a = c.args in
+returns c = let a = c.args in
     let n : length a.event.counts ≡ 32 = search rules in
     c.put_words.ensures.1 ∙ put_end (first_of a.place a.reply a.event) (replicate 32 0) a.event.counts (sym n)

@@ -1,4 +1,4 @@
-use Rattle.std.proofs.Common.{◌≡◌, ◌-◌, ◌≤◌, length, take, refl, arith, rules}
+use Rattle.std.proofs.Common.{◌≡◌, refl, arith, rules}
 use Rattle.blocks.specs.Words.{words_from}
 use Rattle.blocks.proofs.Captured.{one_word}
 use borrow.Author.Rules.{rules}
@@ -9,11 +9,11 @@ unfolding words_from
 loop-i-init c = (search rules, refl, refl)
 
 pub loop-i-preserved : goal.loop-i-preserved
-loop-i-preserved c =     let l = c.loop-i in
+loop-i-preserved c = let l = c.loop-i in
     let a = c.args in
     (search rules, search rules, one_word a.bytes.now l.words l.i c.word.result (omega arith) c.word.ensures l.invariant.2)
 
 pub returns : goal.returns
-returns c =     let l = c.loop-i in
+returns c = let l = c.loop-i in
     let e : c.args.many ≡ l.i = omega arith in
     rw e l.invariant.2

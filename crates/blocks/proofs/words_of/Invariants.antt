@@ -1,8 +1,6 @@
 -- The first i words are made; a turn makes one more. Assumes nothing.
-use Rattle.std.proofs.Common.{◌≡◌, ◌-◌, ◌≤◌, length, take, refl, arith, rules}
+use Rattle.std.proofs.Common.{◌≡◌, ◌-◌, ◌≤◌, length, take}
 use Rattle.blocks.specs.Words.{words_from}
-use Rattle.blocks.proofs.Captured.{one_word}
-use borrow.Author.Rules.{rules}
 use Rattle.blocks.proofs.words_of.Given as goal
 
 abbrev pub invariant-loop-i : goal.invariant-loop-i

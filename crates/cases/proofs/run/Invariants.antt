@@ -1,6 +1,5 @@
 -- The buffer keeps its length; the measure is the cases that are left. Assumes nothing.
-use Rattle.std.proofs.Common.{◌≡◌, ◌-◌, ◌≤◌, length, rules}
-use borrow.Author.Rules.{rules}
+use Rattle.std.proofs.Common.{◌≡◌, ◌-◌, ◌≤◌, length}
 use Rattle.cases.proofs.run.Given as goal
 
 abbrev pub invariant-loop-k : goal.invariant-loop-k

@@ -7,7 +7,7 @@ use borrow.Author.Rules.{rules}
 use Rattle.count.proofs.bit_rose.Goals as goal
 
 pub returns-then-bit-gt31 : goal.returns-then-bit-gt31
-returns-then-bit-gt31 c =     let a = c.args in
+returns-then-bit-gt31 c = let a = c.args in
     simp (no_bit 32 a.bit a.before (omega arith) (search rules), no_bit 32 a.bit a.after (omega arith) (search rules))
 
 pub returns-then-before-bit-ne0 : goal.returns-then-before-bit-ne0

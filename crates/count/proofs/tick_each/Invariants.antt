@@ -1,12 +1,10 @@
 -- The invariant: the counters that are ticked, and those that are left to tick, give the whole. Assumes nothing.
 use Prim.Native.Nat.{◌≤◌, ◌-◌}
-use mathlib.Core.Path.{◌≡◌, refl, ap}
+use mathlib.Core.Path.{◌≡◌}
 use mathlib.Core.List.{map}
-use lib.ListN.{length, length-set}
+use lib.ListN.{length}
 use Rattle.count.specs.Counter.{bits_of, next}
-use Rattle.count.specs.declared.Ticked.{Ticked}
-use Rattle.count.proofs.Mapping.{Mapping, map_start, map_turn, map_over}
-use borrow.Author.Rules.{rules}
+use Rattle.count.proofs.Mapping.{Mapping}
 use Rattle.count.proofs.tick_each.Given as goal
 
 abbrev pub invariant-loop-k : goal.invariant-loop-k

@@ -1,14 +1,10 @@
 -- Each turn that does not end the input, and whose read does not fail, has more of it, so that what is free of the
 -- buffer falls. Assumes nothing.
-use mathlib.Core.Path.{◌≡◌, refl, sym, ap, ◌∙◌}
-use mathlib.Core.Bool.{cond, not, ◌&&◌, false≢true}
+use mathlib.Core.Path.{◌≡◌}
+use mathlib.Core.Bool.{cond, not, ◌&&◌}
 use Prim.Native.Nat.{suc, ◌-◌, ◌≤◌}
-use borrow.Author.Tests.{not-true, not-false}
 use lib.ListN.{length}
-use Rattle.stdio.specs.declared.Listing.{Listing}
 use Rattle.head.specs.Heads.{unused}
-use Rattle.head.proofs.Begins.{Grown, grows, falls}
-use borrow.Author.Rules.{rules}
 use Rattle.head.proofs.begin.Given as goal
 
 abbrev pub invariant-loop-l : goal.invariant-loop-l

@@ -4,7 +4,6 @@ use Prim.Native.Nat.{ℕ}
 use lib.Dec.{eqb}
 use lib.Seq.{length-take-le}
 use Rattle.head.specs.declared.Head.{Head}
-use borrow.Author.Rules.{rules}
 use Rattle.head.proofs.is_cut.Goals as goal
 
 pub slice_bounds-read_head-end : goal.slice_bounds-read_head-end

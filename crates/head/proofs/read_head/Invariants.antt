@@ -1,12 +1,9 @@
 -- What the limits left give, from the place reached, is the whole head. Assumes nothing.
-use mathlib.Core.Path.{◌≡◌, refl, sym, ◌∙◌}
+use mathlib.Core.Path.{◌≡◌}
 use Prim.Native.Nat.{◌-◌, ◌≤◌}
-use native.Mathlib.Omega.{arith}
-use borrow.Author.Tests.{ltb-false}
 use lib.ListN.{length, take}
 use Rattle.head.specs.Heads.{head_from, head_of}
-use Rattle.head.proofs.Turns.{left, one, fault, end_40, end_limits}
-use borrow.Author.Rules.{rules}
+use Rattle.head.proofs.Turns.{left}
 use Rattle.head.proofs.read_head.Given as goal
 
 abbrev pub invariant-loop-i : goal.invariant-loop-i

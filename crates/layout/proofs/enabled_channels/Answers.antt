@@ -4,5 +4,5 @@ use borrow.Author.Rules.{rules}
 use Rattle.layout.proofs.enabled_channels.Goals as goal
 
 pub returns : goal.returns
-returns c =     let e = ones_all 32 c.args.enable (search rules) in
+returns c = let e = ones_all 32 c.args.enable (search rules) in
     (e, rw e (ones_in_le 32 c.args.enable))

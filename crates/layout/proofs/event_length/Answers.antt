@@ -1,6 +1,5 @@
 -- A header is one word more; the ones of 32 bits are at most 32. Assumes nothing.
 use native.Mathlib.Nat.{add-zero}
-use borrow.Author.Rules.{rules}
 use Rattle.layout.proofs.event_length.Goals as goal
 
 pub returns-then-settings : goal.returns-then-settings

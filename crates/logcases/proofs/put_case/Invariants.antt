@@ -1,8 +1,7 @@
 -- The output buffer keeps its length, and the listing what is had of the input. Assumes nothing.
-use mathlib.Core.Path.{◌≡◌, ◌∙◌}
+use mathlib.Core.Path.{◌≡◌}
 use Prim.Native.Nat.{◌-◌, ◌+◌}
 use lib.ListN.{length}
-use borrow.Author.Rules.{rules}
 use Rattle.logcases.proofs.put_case.Given as goal
 
 abbrev pub invariant-loop-i : goal.invariant-loop-i

@@ -1,12 +1,7 @@
 -- The first k counts are copied; a turn copies one more. Assumes nothing.
-use mathlib.Core.Path.{◌≡◌, refl}
+use mathlib.Core.Path.{◌≡◌}
 use Prim.Native.Nat.{◌-◌, ◌≤◌}
-use native.Mathlib.Omega.{arith}
 use lib.ListN.{length, take, drop}
-use Rattle.stdio.proofs.Moving.{one_more}
-use Rattle.head.proofs.CountedUp.{all}
-use Rattle.makeblock.proofs.Copied.{length_counts, count_at}
-use borrow.Author.Rules.{rules}
 use Rattle.makeblock.proofs.event_of.Given as goal
 
 abbrev pub invariant-loop-k : goal.invariant-loop-k

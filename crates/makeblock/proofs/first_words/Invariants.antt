@@ -1,12 +1,8 @@
 -- The first i words are stored; a turn stores one more. Assumes nothing.
-use mathlib.Core.Path.{◌≡◌, refl}
+use mathlib.Core.Path.{◌≡◌}
 use Prim.Native.Nat.{◌-◌, ◌≤◌}
-use native.Mathlib.Omega.{arith}
 use lib.ListN.{length, take}
 use Rattle.head.specs.Heads.{up_from}
-use Rattle.stdio.proofs.Moving.{one_more}
-use Rattle.head.proofs.CountedUp.{all, length_up, up_at}
-use borrow.Author.Rules.{rules}
 use Rattle.makeblock.proofs.first_words.Given as goal
 
 abbrev pub invariant-loop-i : goal.invariant-loop-i

@@ -7,6 +7,6 @@ use borrow.Author.Rules.{rules}
 use Rattle.makeblock.proofs.numbers_of.Goals as goal
 
 pub returns : goal.returns
-returns c =     let a = c.args in
+returns c = let a = c.args in
     let n : length a.words ≡ 64 = search rules in
     c.put_words.ensures.1 ∙ put_end [] (replicate 64 0) a.words (sym n)

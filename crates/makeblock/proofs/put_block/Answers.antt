@@ -2,7 +2,6 @@
 use mathlib.Core.Path.{sym}
 use native.Mathlib.Omega.{arith}
 use lib.Seq.{length-take-le}
-use borrow.Author.Rules.{rules}
 use Rattle.makeblock.proofs.put_block.Goals as goal
 
 pub slice_bounds-write_event-end : goal.slice_bounds-write_event-end

@@ -2,8 +2,7 @@
 use mathlib.Core.Path.{sym}
 use native.Mathlib.Omega.{arith}
 use lib.Seq.{length-take-le}
-use borrow.Author.Rules.{rules}
 use Rattle.makeblock.proofs.put_words.Goals as goal
 
 pub slice_bounds-put_line-end : goal.slice_bounds-put_line-end
-slice_bounds-put_line-end c =     sym (length-take-le c.args.room c.numbers_of-numbers.result (omega arith))
+slice_bounds-put_line-end c = sym (length-take-le c.args.room c.numbers_of-numbers.result (omega arith))

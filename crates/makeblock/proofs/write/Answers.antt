@@ -1,7 +1,6 @@
 -- What is had of the input lies within its buffer. Assumes nothing.
 use mathlib.Core.Path.{sym}
 use lib.Seq.{length-take-le}
-use borrow.Author.Rules.{rules}
 use Rattle.makeblock.proofs.write.Goals as goal
 
 pub slice_bounds-read_head-end : goal.slice_bounds-read_head-end

@@ -1,8 +1,5 @@
-use mathlib.Core.Path.{◌≡◌, refl, sym, ◌∙◌}
-use Prim.Native.Nat.{◌+◌, ◌-◌, ◌≤◌}
+use mathlib.Core.Path.{refl, sym, ◌∙◌}
 use native.Mathlib.Nat.{add-zero}
-use lib.ListN.{length, drop}
-use Rattle.meb.specs.Ring.{put_round}
 use Rattle.meb.proofs.RingLaws.{put_turn, put_done}
 use borrow.Author.Rules.{rules}
 use Rattle.meb.proofs.put_round.Goals as goal
@@ -11,7 +8,7 @@ pub loop-j-init : goal.loop-j-init
 loop-j-init c = (refl, search rules, rw add-zero)
 
 pub loop-j-preserved : goal.loop-j-preserved
-loop-j-preserved c =     let l = c.loop-j in
+loop-j-preserved c = let l = c.loop-j in
     let a = c.args in
     (search rules, search rules, put_turn _ l.memory a.words.now a.from l.j _ (search rules) (cc) ∙ l.invariant.2)
 

@@ -1,11 +1,7 @@
 -- The first k counts are copied; a turn copies one more. Assumes nothing.
-use mathlib.Core.Path.{◌≡◌, refl, sym, ◌∙◌}
+use mathlib.Core.Path.{◌≡◌}
 use Prim.Native.Nat.{◌+◌, ◌-◌, ◌≤◌}
-use native.Mathlib.Omega.{arith}
 use lib.ListN.{length, take, drop}
-use lib.Seq.{take_all}
-use Rattle.modules.proofs.Counts.{one_count}
-use borrow.Author.Rules.{rules}
 use Rattle.modules.proofs.copy_from.Given as goal
 
 abbrev pub invariant-loop-k : goal.invariant-loop-k

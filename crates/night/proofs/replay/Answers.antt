@@ -1,5 +1,5 @@
 -- The gate's answer picks: refused, nothing is put; else the run (Sound). Assumes nothing.
-use Rattle.std.proofs.Common.{ap, ◌∙◌, arith, rules}
+use Rattle.std.proofs.Common.{ap, ◌∙◌, arith}
 use Rattle.bus.specs.declared.Reply.{Reply}
 use Rattle.meb.specs.Ring.{lent}
 use Rattle.text.specs.Text.{put}
@@ -8,11 +8,10 @@ use Rattle.night.specs.Lines.{text}
 use Rattle.night.specs.Runs.{Run, part_of}
 use Rattle.night.proofs.Going.{nothing_put}
 use Rattle.night.proofs.Sound.{gate_sound, lets_pass, passes, refuses}
-use borrow.Author.Rules.{rules}
 use Rattle.night.proofs.replay.Goals as goal
 
 pub returns-then-numbered-ne0 : goal.returns-then-numbered-ne0
-returns-then-numbered-ne0 c =     let k = c in
+returns-then-numbered-ne0 c = let k = c in
     let a = k.args in
     let m = lent a.memory.now in
     let g = k.gate-answer in
@@ -22,7 +21,7 @@ returns-then-numbered-ne0 c =     let k = c in
     (c.here.ensures ∙ p.0 ∙ ap part_of e, ap (λ (r : Run). r.memory.words) e, p.1 ∙ ap (λ (r : Run). put a.out.now 0 (text r.lines)) e)
 
 pub run-requires : goal.run-requires
-run-requires c =     let k = c in
+run-requires c = let k = c in
     let a = k.args in
     let m = lent a.memory.now in
     let g = k.gate-answer in
@@ -31,7 +30,7 @@ run-requires c =     let k = c in
     (lets_pass a.out.now a.last a.log.now a.night m g.result x g.ensures (ap (λ (r : Reply). r.number) k.numbered.ensures) (omega (arith, c.if-numbered-ne0.false)))
 
 pub returns : goal.returns
-returns c =     let u = c in
+returns c = let u = c in
     let k = u in
     let a = k.args in
     let m = lent a.memory.now in

@@ -1,21 +1,18 @@
-use Rattle.std.proofs.Common.{◌≡◌, ℕ, List, length, drop, sym, refl, ap, ◌∙◌, arith, length-drop, rules}
+use Rattle.std.proofs.Common.{◌≡◌, ℕ, List, drop, sym, refl, ap, ◌∙◌, arith, length-drop}
 use borrow.Author.Rules.{part_to_end}
 use Rattle.benchlog.specs.Entries.{entry_at}
 use Rattle.meb.specs.Ring.{lent}
 use Rattle.night.specs.declared.Taken.{Taken}
-use Rattle.night.specs.Runs.{run_of}
-use Rattle.night.specs.Tallies.{tally_of}
-use Rattle.night.proofs.Going.{Going, start, again, within, stops_part, stops_lent, stops_puts, ends}
-use Rattle.night.proofs.Sound.{Sound, words, taken_sound}
+use Rattle.night.proofs.Going.{start, again, within, stops_part, stops_lent, stops_puts, ends}
+use Rattle.night.proofs.Sound.{words, taken_sound}
 use Rattle.night.proofs.Tallying.{tells, counted_on}
-use borrow.Author.Rules.{rules}
 use Rattle.night.proofs.run.Goals as goal
 
 pub loop-left-init : goal.loop-left-init
 loop-left-init c = (refl, c.requires, start _ _ _ _ _ _ (omega arith), c.counted_to-number.ensures)
 
 pub returns-in-Refused : goal.returns-in-Refused
-returns-in-Refused c =     let i = c in
+returns-in-Refused c = let i = c in
     let log = i.args.log.now in
     let r = (ap (λ (b : List ℕ). entry_at b 0) (sym (part_to_end c.args.log.now c.loop-left.used)) ∙ sym c.read_entry.ensures) ∙ c.in-Refused.is in
     let g = i.loop-left.invariant.2 in
@@ -30,7 +27,7 @@ pub put_entry-at-requires : goal.put_entry-at-requires
 put_entry-at-requires c = tells _ _ c.counted_up-number.ensures
 
 pub overflow_add-used : goal.overflow_add-used
-overflow_add-used c =     let i = c in
+overflow_add-used c = let i = c in
     let log = i.args.log.now in
     let r = (ap (λ (b : List ℕ). entry_at b 0) (sym (part_to_end c.args.log.now c.loop-left.used)) ∙ sym c.read_entry.ensures) ∙ c.in-Entry.is in
     omega (arith, within (drop i.loop-left.used log) _ _ r, length-drop i.loop-left.used log, i.loop-left.invariant.2.in_log)
@@ -42,7 +39,7 @@ pub loop-left-smaller : goal.loop-left-smaller
 loop-left-smaller c = omega (arith, c.loop-left-test.true)
 
 pub loop-left-preserved : goal.loop-left-preserved
-loop-left-preserved c =     let i = c in
+loop-left-preserved c = let i = c in
     let r = (ap (λ (b : List ℕ). entry_at b 0) (sym (part_to_end c.args.log.now c.loop-left.used)) ∙ sym c.read_entry.ensures) ∙ c.in-Entry.is in
     let t = c.take-taken in
     let u = c.counted_up-number in
@@ -52,7 +49,7 @@ loop-left-preserved c =     let i = c in
     (t.auto.memory ∙ i.loop-left.invariant.0, taken_sound i.loop-left.now (lent i.loop-left.memory) _ _ t.result _ _ r i.loop-left.invariant.1 t.ensures.0 t.ensures.1, again i.loop-left.left _ _ t.result _ p.result _ c.loop-left-test.true i.loop-left.invariant.2 r t.ensures.0 (ap lent t.ensures.1) q.0 q.1, n.0)
 
 pub returns : goal.returns
-returns c =     let i = c in
+returns c = let i = c in
     let z : i.loop-left.left ≡ 0 = omega (arith, c.loop-left-test.false) in
     let e = ends (rw z at i.loop-left.invariant.2) in
     (c.here.ensures ∙ e.0, ap words e.1, e.2)

@@ -1,9 +1,7 @@
 -- The places stay within the buffers. Assumes nothing.
 use Prim.Native.Nat.{◌≤◌}
-use mathlib.Core.Path.{◌≡◌, refl}
+use mathlib.Core.Path.{◌≡◌}
 use lib.ListN.{length}
-use Rattle.stdio.proofs.Keeping.{written_same}
-use borrow.Author.Rules.{rules}
 use Rattle.replay.proofs.run.Given as goal
 
 abbrev pub invariant-loop-turns : goal.invariant-loop-turns

@@ -7,11 +7,11 @@ use borrow.Author.Rules.{rules}
 use Rattle.stdio.proofs.refill.Goals as goal
 
 pub returns-then-used-have : goal.returns-then-used-have
-returns-then-used-have c =     let a = c.args in
+returns-then-used-have c = let a = c.args in
     (search rules, rw (lt-leb a.used a.have (omega arith)) (refl, refl))
 
 pub returns-then-have-buf : goal.returns-then-have-buf
-returns-then-have-buf c =     let a = c.args in
+returns-then-have-buf c = let a = c.args in
     (search rules, rw (le-leb a.used a.have (omega arith), lt-leb a.have (length a.buf.now) (omega arith)) (refl, refl))
 
 pub returns-in-Ok : goal.returns-in-Ok

@@ -1,7 +1,6 @@
 -- The first i bytes are moved; a turn moves one more. Assumes nothing.
-use Rattle.std.proofs.Common.{◌≡◌, ◌-◌, ◌≤◌, length, arith, rules}
-use Rattle.stdio.proofs.Moving.{Moved, start, one}
-use borrow.Author.Rules.{rules}
+use Rattle.std.proofs.Common.{◌≡◌, ◌-◌, ◌≤◌, length}
+use Rattle.stdio.proofs.Moving.{Moved}
 use Rattle.stdio.proofs.shift.Given as goal
 
 abbrev pub invariant-loop-i : goal.invariant-loop-i

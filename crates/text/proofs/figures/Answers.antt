@@ -1,10 +1,8 @@
-use Prim.Native.Nat.{◌+◌, ◌*◌, ◌-◌, ◌^◌, ◌≤◌, ◌<◌}
-use mathlib.Core.Logic.{⊎_elim}
+use Prim.Native.Nat.{◌^◌, ◌<◌}
 use mathlib.Core.Path.{◌≡◌, refl, sym}
 use native.Mathlib.Nat.{pow-suc, pow-le-pow_right}
 use native.Mathlib.Numerals.{add-one}
 use native.Mathlib.Omega.{arith}
-use borrow.Author.Tests.{leb-true, leb-false}
 use Rattle.text.proofs.Decimal.{figures_many}
 use borrow.Author.Rules.{rules}
 use Rattle.text.proofs.figures.Goals as goal
@@ -17,7 +15,7 @@ pub overflow_mul-bound : goal.overflow_mul-bound
 overflow_mul-bound c = let l = c.loop-many in omega (arith, pow-le-pow_right {n = 10} (omega arith) {i = l.many} {j = 18} (omega arith))
 
 pub loop-many-preserved : goal.loop-many-preserved
-loop-many-preserved c =     let l = c.loop-many in
+loop-many-preserved c = let l = c.loop-many in
     let n = c.args.n in
     (search rules, search rules, rw (l.invariant.2, add-one) (sym (pow-suc 10 l.many)), omega arith)
 
@@ -30,7 +28,7 @@ returns c =
     let n = c.args.n in
     let below : n < 10 ^ l.many =
     elim c.loop-many-test.branch [
-      then-loop-many-test+else-n-bound w ↦ (let t : n < l.bound = omega arith in omega arith)
-    | else-loop-many-test w ↦ (let e : l.many ≡ 19 = omega arith in rw e c.if-n-ge10000000000000000000.false)
+      | then-loop-many-test+else-n-bound w ↦ (let t : n < l.bound = omega arith in omega arith)
+      | else-loop-many-test w ↦ (let e : l.many ≡ 19 = omega arith in rw e c.if-n-ge10000000000000000000.false)
     ] in
     figures_many l.many n (omega arith) (omega arith) (omega arith) below

@@ -1,12 +1,10 @@
 -- With the digits still to come put before it, what is stored is the whole; a turn stores the last digit of the rest.
 -- Assumes nothing.
 use Prim.Native.Nat.{◌≤◌}
-use mathlib.Core.Path.{◌≡◌, refl, sym, ◌∙◌}
-use native.Mathlib.Omega.{arith}
+use mathlib.Core.Path.{◌≡◌}
 use lib.ListN.{length}
 use Rattle.text.specs.Text.{put, decimal}
-use Rattle.text.proofs.Decimal.{filled, filled_start, filled_turn, filled_whole}
-use borrow.Author.Rules.{rules}
+use Rattle.text.proofs.Decimal.{filled}
 use Rattle.text.proofs.write_digits.Given as goal
 
 abbrev pub invariant-loop-i : goal.invariant-loop-i

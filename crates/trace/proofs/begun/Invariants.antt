@@ -1,7 +1,5 @@
 -- What is had of the input lies within its buffer; the measure is a count of turns. Assumes nothing.
-use Rattle.std.proofs.Common.{◌≡◌, ◌≤◌, length, rules}
-use Rattle.stdio.proofs.Keeping.{read_had}
-use borrow.Author.Rules.{rules}
+use Rattle.std.proofs.Common.{◌≡◌, ◌≤◌, length}
 use Rattle.trace.proofs.begun.Given as goal
 
 abbrev pub invariant-loop-turns : goal.invariant-loop-turns

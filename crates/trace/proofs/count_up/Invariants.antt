@@ -1,9 +1,6 @@
 -- The first k words are set; a turn sets one more. Assumes nothing.
-use Rattle.std.proofs.Common.{◌≡◌, ◌-◌, ◌≤◌, length, take, refl, arith, rules}
+use Rattle.std.proofs.Common.{◌≡◌, ◌-◌, ◌≤◌, length, take}
 use Rattle.head.specs.Heads.{up_from}
-use Rattle.head.proofs.CountedUp.{all, length_up, up_at}
-use Rattle.stdio.proofs.Moving.{one_more}
-use borrow.Author.Rules.{rules}
 use Rattle.trace.proofs.count_up.Given as goal
 
 abbrev pub invariant-loop-k : goal.invariant-loop-k

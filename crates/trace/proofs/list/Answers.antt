@@ -1,6 +1,5 @@
 -- What is had of the input lies within its buffer. Assumes nothing.
-use Rattle.std.proofs.Common.{length, sym, arith, length-take-le, rules}
-use borrow.Author.Rules.{rules}
+use Rattle.std.proofs.Common.{sym, length-take-le}
 use Rattle.trace.proofs.list.Goals as goal
 
 pub slice_bounds-head_in-end-2 : goal.slice_bounds-head_in-end-2

@@ -1,7 +1,4 @@
-use mathlib.Core.Path.{◌≡◌, refl, sym, ◌∙◌}
-use Prim.Native.Nat.{◌-◌, ◌≤◌}
-use lib.ListN.{drop}
-use Rattle.v260.specs.Outcomes.{fits}
+use mathlib.Core.Path.{refl, sym, ◌∙◌}
 use Rattle.v260.proofs.Fitting.{fits_turn, fits_stop, fits_over}
 use borrow.Author.Rules.{rules}
 use Rattle.v260.proofs.counts_fit.Goals as goal

@@ -1,10 +1,8 @@
 -- The invariant: the counts that are left to look at fit exactly when all do. Assumes nothing.
-use mathlib.Core.Path.{◌≡◌, refl, sym, ◌∙◌}
+use mathlib.Core.Path.{◌≡◌}
 use Prim.Native.Nat.{◌-◌, ◌≤◌}
 use lib.ListN.{drop}
 use Rattle.v260.specs.Outcomes.{fits}
-use Rattle.v260.proofs.Fitting.{fits_turn, fits_stop, fits_over}
-use borrow.Author.Rules.{rules}
 use Rattle.v260.proofs.counts_fit.Given as goal
 
 abbrev pub invariant-loop-k : goal.invariant-loop-k

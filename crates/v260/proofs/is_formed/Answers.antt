@@ -1,6 +1,5 @@
 -- The level, then the counts. Assumes nothing.
 use Rattle.count.proofs.Tests.{holds, fails}
-use borrow.Author.Rules.{rules}
 use mathlib.Core.Path.{ap}
 use mathlib.Core.Bool.{not}
 use Rattle.v260.proofs.is_formed.Goals as goal

@@ -9,7 +9,6 @@ use borrow.Author.Tests.{ne_eqb}
 use Rattle.benchlog.specs.declared.Fault.TheVariants.{NoSuchKind}
 use Rattle.benchlog.specs.declared.Reading.TheVariants.{Refused}
 use Rattle.benchlog.specs.Entries.{kind_at}
-use borrow.Author.Rules.{rules}
 use Rattle.benchlog.proofs.entries.of_kind.Goals as goal
 
 -- 33: a kind above 7 is none of the eight

@@ -1,6 +1,5 @@
 -- The arguments in order, each as its callee gives it. Assumes nothing.
 use Rattle.benchlog.specs.Entries.{read_at}
-use borrow.Author.Rules.{rules}
 use Rattle.benchlog.proofs.entries.read.Goals as goal
 
 pub returns-in-Refused : goal.returns-in-Refused

@@ -1,7 +1,6 @@
 -- The number is read; then the test of the range. Assumes nothing.
 use borrow.Author.Tests.{le-leb, lt-leb}
 use Rattle.benchlog.specs.Entries.{argument_at}
-use borrow.Author.Rules.{rules}
 use Rattle.benchlog.proofs.entries.read_argument.Goals as goal
 
 pub returns-in-Refused : goal.returns-in-Refused

@@ -1,6 +1,5 @@
 -- The kind is a number; what follows is by kind. Assumes nothing.
 use Rattle.benchlog.specs.Entries.{entry_at}
-use borrow.Author.Rules.{rules}
 use Rattle.benchlog.proofs.entries.read_entry.Goals as goal
 
 pub returns-in-Refused : goal.returns-in-Refused

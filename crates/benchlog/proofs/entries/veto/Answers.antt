@@ -1,6 +1,5 @@
 -- The arguments in order, each as its callee gives it. Assumes nothing.
 use Rattle.benchlog.specs.Entries.{veto_at}
-use borrow.Author.Rules.{rules}
 use Rattle.benchlog.proofs.entries.veto.Goals as goal
 
 pub returns-in-Refused : goal.returns-in-Refused

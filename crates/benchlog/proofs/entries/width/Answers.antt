@@ -1,7 +1,6 @@
 -- The number is read; then the tests of the two widths. Assumes nothing.
 use borrow.Author.Tests.{eq-eqb, ne_eqb}
 use Rattle.benchlog.specs.Entries.{width_at}
-use borrow.Author.Rules.{rules}
 use Rattle.benchlog.proofs.entries.width.Goals as goal
 
 pub returns-in-Refused : goal.returns-in-Refused

@@ -1,6 +1,5 @@
 -- The arguments in order, each as its callee gives it. Assumes nothing.
 use Rattle.benchlog.specs.Entries.{write_at}
-use borrow.Author.Rules.{rules}
 use Rattle.benchlog.proofs.entries.write.Goals as goal
 
 pub returns-in-Refused : goal.returns-in-Refused
@@ -13,7 +12,7 @@ returns-in-Refused-width c = let w = c in let o = w in rw (← o.read_argument.e
 
 pub returns-in-Refused-read_argument : goal.returns-in-Refused-read_argument
 unfolding write_at
-returns-in-Refused-read_argument c =     let d = c in
+returns-in-Refused-read_argument c = let d = c in
     let b = d in
     let w = b in
     let o = w in
@@ -21,7 +20,7 @@ returns-in-Refused-read_argument c =     let d = c in
 
 pub returns-in-Value-read_argument : goal.returns-in-Value-read_argument
 unfolding write_at
-returns-in-Value-read_argument c =     let d = c in
+returns-in-Value-read_argument c = let d = c in
     let b = d in
     let w = b in
     let o = w in

@@ -1,7 +1,6 @@
 -- What stands at the group's place, by the laws of Groups. Assumes nothing.
 use Rattle.benchlog.specs.Number.{groups}
 use Rattle.benchlog.proofs.Groups.{ends, above, not_shortest_lem, last}
-use borrow.Author.Rules.{rules}
 use Rattle.benchlog.proofs.numbers.fifth.Goals as goal
 
 pub returns-then-log-at : goal.returns-then-log-at

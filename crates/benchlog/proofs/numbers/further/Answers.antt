@@ -1,8 +1,7 @@
 use Prim.Native.Nat.{◌-◌}
 use mathlib.Core.Path.{◌∙◌}
 use native.Mathlib.Omega.{arith}
-use Rattle.benchlog.specs.Number.{groups}
-use Rattle.benchlog.proofs.Weights.{Grouped, start, no_next, product_fits, weight_fits, next_last, next_more, ended, ended_room, ended_below}
+use Rattle.benchlog.proofs.Weights.{start, no_next, product_fits, weight_fits, next_last, next_more, ended, ended_room, ended_below}
 use borrow.Author.Rules.{rules}
 use Rattle.benchlog.proofs.numbers.further.Goals as goal
 

@@ -1,7 +1,6 @@
 -- The first group is a number by itself, or `further` goes on. Assumes nothing.
 use borrow.Author.Tests.{le-ltb, lt-ltb}
 use Rattle.benchlog.specs.Number.{number_at}
-use borrow.Author.Rules.{rules}
 use Rattle.benchlog.proofs.numbers.read_number.Goals as goal
 
 pub returns-then-log-at : goal.returns-then-log-at

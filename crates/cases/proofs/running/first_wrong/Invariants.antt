@@ -1,14 +1,11 @@
 -- The invariant: the steps that are left give what all of them give. Assumes nothing.
-use Rattle.std.proofs.Common.{◌≡◌, ◌+◌, ◌-◌, ◌<◌, ◌≤◌, length, take, drop, sym, refl, ◌∙◌, ⊎_elim, arith, rules, ltb-false, ltb-true}
-use borrow.Author.Tests.{not-true, not-false}
+use Rattle.std.proofs.Common.{◌≡◌, ◌+◌, ◌-◌, ◌≤◌, length, take, drop}
 use Rattle.meb.specs.Ring.{lent}
 use Rattle.cases.specs.Running.{wrong_from}
-use Rattle.cases.proofs.Steps.{unmapped, short, short_of, one_wrong, one_right, all_right, not_admitted}
-use borrow.Author.Rules.{rules}
 use Rattle.cases.proofs.running.first_wrong.Given as goal
 
 abbrev pub invariant-loop-k : goal.invariant-loop-k
-invariant-loop-k l =     (l.k ≤ 10) × (length l.memory ≡ length l.initial.memory)
+invariant-loop-k l = (l.k ≤ 10) × (length l.memory ≡ length l.initial.memory)
     × (wrong_from (l.k + 1) l.c.pulses l.b (lent l.memory) (drop l.k (take l.c.many l.lines)) ≡ wrong_from 1 l.c.pulses l.initial.b (lent l.initial.memory) (take l.c.many l.lines))
 
 abbrev pub decreases-loop-k : goal.decreases-loop-k

@@ -1,15 +1,10 @@
 -- The data left and the words from the place reached decide; one turn is one clause of the definition. Assumes
 -- nothing.
-use mathlib.Core.Path.{ap, ◌∙◌}
 use lib.ListN.{drop}
-use Rattle.layout.specs.declared.Answer.TheVariants.{Done}
 use Rattle.layout.specs.Numbers.{gives_length}
 use Rattle.layout.specs.Reader.{data_answer}
 use Rattle.layout.specs.Length.{enabled_channels, header_length}
-use Rattle.layout.proofs.Turns.{Left, left_start, left_room}
-use Rattle.layout.proofs.Data.{data_bit_26, data_channel, data_next, data_over}
-use native.Mathlib.Omega.{arith}
-use borrow.Author.Rules.{rules}
+use Rattle.layout.proofs.Turns.{Left}
 use Rattle.layout.proofs.reader.data_answered.Given as goal
 
 abbrev pub invariant-loop-left : goal.invariant-loop-left

@@ -1,7 +1,6 @@
 -- The counts are the callee's; the fields are those of the first word, or 0. Assumes nothing.
 use native.Mathlib.Omega.{arith}
 use Rattle.layout.specs.Reader.{event_in}
-use borrow.Author.Rules.{rules}
 use Rattle.layout.proofs.reader.decoded.Goals as goal
 
 pub bounds-words-0 : goal.bounds-words-0

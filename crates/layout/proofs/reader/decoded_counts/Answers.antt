@@ -1,14 +1,11 @@
-use lib.ListN.{drop, replicate}
-use Rattle.layout.specs.Reader.{counts_read}
-use Rattle.layout.specs.Length.{enabled_channels, header_length}
-use Rattle.layout.proofs.Turns.{Left, left_start, left_room}
+use Rattle.layout.proofs.Turns.{left_start, left_room}
 use Rattle.layout.proofs.Data.{counts_next, counts_over}
 use native.Mathlib.Omega.{arith}
 use borrow.Author.Rules.{rules}
 use Rattle.layout.proofs.reader.decoded_counts.Goals as goal
 
 pub loop-left-init : goal.loop-left-init
-loop-left-init c =     let a = c.args in
+loop-left-init c = let a = c.args in
     left_start _ a.settings a.words.now _ (search rules) c.requires c.data_place-at.ensures
 
 pub offset_bounds-words-at : goal.offset_bounds-words-at
@@ -21,7 +18,7 @@ pub overflow_add-at : goal.overflow_add-at
 overflow_add-at c = let n = c.next_channel-next in omega (arith, left_room c.loop-left.invariant n.result.channel n.result.left n.ensures.0)
 
 pub loop-left-preserved : goal.loop-left-preserved
-loop-left-preserved c =     let l = c.loop-left in
+loop-left-preserved c = let l = c.loop-left in
     let a = c.args in
     let n = c.next_channel-next in
     rw c.count_in.ensures (counts_next a.settings.short l.counts l.invariant n.result.channel n.result.left n.ensures.0)

@@ -3,10 +3,7 @@
 use lib.ListN.{drop, replicate}
 use Rattle.layout.specs.Reader.{counts_read}
 use Rattle.layout.specs.Length.{enabled_channels, header_length}
-use Rattle.layout.proofs.Turns.{Left, left_start, left_room}
-use Rattle.layout.proofs.Data.{counts_next, counts_over}
-use native.Mathlib.Omega.{arith}
-use borrow.Author.Rules.{rules}
+use Rattle.layout.proofs.Turns.{Left}
 use Rattle.layout.proofs.reader.decoded_counts.Given as goal
 
 abbrev pub invariant-loop-left : goal.invariant-loop-left

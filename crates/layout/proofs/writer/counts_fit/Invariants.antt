@@ -1,11 +1,8 @@
 -- What is left of the counts decides; one turn is one clause of the definition. Assumes nothing.
-use mathlib.Core.Path.{◌≡◌, refl, sym, ◌∙◌}
+use mathlib.Core.Path.{◌≡◌}
 use Prim.Native.Nat.{◌-◌, ◌≤◌}
 use lib.ListN.{length, drop}
-use Rattle.count.proofs.Tests.{holds, fails}
 use Rattle.layout.specs.Writer.{counts_fit}
-use Rattle.layout.proofs.Data.{fit_fails, fit_goes_on, fit_ends}
-use borrow.Author.Rules.{rules}
 use Rattle.layout.proofs.writer.counts_fit.Given as goal
 
 abbrev pub invariant-loop-k : goal.invariant-loop-k

@@ -1,6 +1,5 @@
 -- Each field is within its bits, so nothing carries into the next. Assumes nothing.
 use native.Mathlib.Omega.{arith}
-use borrow.Author.Rules.{rules}
 use Rattle.layout.proofs.writer.header.Goals as goal
 
 pub overflow_add-result-2 : goal.overflow_add-result-2

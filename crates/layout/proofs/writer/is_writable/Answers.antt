@@ -1,7 +1,6 @@
 -- The tests of the definition, in its order. Assumes nothing.
 use Rattle.count.proofs.Tests.{holds, fails}
 use Rattle.layout.specs.Writer.{writable}
-use borrow.Author.Rules.{rules}
 use mathlib.Core.Path.{ap}
 use mathlib.Core.Bool.{not}
 use Rattle.layout.proofs.writer.is_writable.Goals as goal

@@ -1,11 +1,7 @@
-use Prim.Native.Nat.{◌-◌}
-use mathlib.Core.Path.{◌≡◌, refl, ◌∙◌}
-use lib.ListN.{length, length-set}
+use mathlib.Core.Path.{refl, ◌∙◌}
+use lib.ListN.{length-set}
 use native.Mathlib.Omega.{arith}
-use lib.Seq.{sets}
-use Rattle.layout.specs.Layout.{data_of}
-use Rattle.layout.specs.Length.{enabled_channels}
-use Rattle.layout.proofs.Turns.{Putting, put_room, put_turn, put_over}
+use Rattle.layout.proofs.Turns.{put_room, put_turn, put_over}
 use borrow.Author.Rules.{rules}
 use Rattle.layout.proofs.writer.put_data.Goals as goal
 
@@ -22,7 +18,7 @@ pub overflow_add-at : goal.overflow_add-at
 overflow_add-at c = let l = c.loop-left in let n = c.next_channel-next in omega (arith, put_room l.invariant.1 n.result.channel n.result.left n.ensures.0)
 
 pub loop-left-preserved : goal.loop-left-preserved
-loop-left-preserved c =     let l = c.loop-left in
+loop-left-preserved c = let l = c.loop-left in
     let n = c.next_channel-next in
     (length-set l.words l.at c.datum.result ∙ l.invariant.0, rw c.datum.ensures (put_turn l.invariant.1 n.result.channel n.result.left n.ensures.0))
 

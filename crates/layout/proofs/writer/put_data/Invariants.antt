@@ -1,13 +1,10 @@
 -- The data left, stored from the place reached, give the whole; one turn is one datum. Assumes nothing.
-use Prim.Native.Nat.{◌-◌}
-use mathlib.Core.Path.{◌≡◌, refl, ◌∙◌}
-use lib.ListN.{length, length-set}
-use native.Mathlib.Omega.{arith}
+use mathlib.Core.Path.{◌≡◌}
+use lib.ListN.{length}
 use lib.Seq.{sets}
 use Rattle.layout.specs.Layout.{data_of}
 use Rattle.layout.specs.Length.{enabled_channels}
-use Rattle.layout.proofs.Turns.{Putting, put_room, put_turn, put_over}
-use borrow.Author.Rules.{rules}
+use Rattle.layout.proofs.Turns.{Putting}
 use Rattle.layout.proofs.writer.put_data.Given as goal
 
 abbrev pub invariant-loop-left : goal.invariant-loop-left

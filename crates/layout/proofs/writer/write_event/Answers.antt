@@ -11,7 +11,6 @@ use Rattle.layout.specs.Writer.{writable, write_answer, write_words}
 use Rattle.layout.proofs.Answers.{fields_fit_lem, writable_parts}
 use Rattle.layout.proofs.Written.{write_answers, stored_words_lem, write_leaves}
 use Rattle.layout.proofs.Lengths.{none, some, length_of}
-use borrow.Author.Rules.{rules}
 use Rattle.layout.proofs.writer.write_event.Goals as goal
 
 pub returns-then-length-eq0 : goal.returns-then-length-eq0
@@ -20,24 +19,24 @@ returns-then-length-eq0 c = rw (length_of c.args.settings c.event_length-length.
 
 pub returns-then-not-is_writable : goal.returns-then-not-is_writable
 unfolding write_answer write_words
-returns-then-not-is_writable c =     let w = c.is_writable in
+returns-then-not-is_writable c = let w = c.is_writable in
     rw (length_of c.args.settings c.event_length-length.ensures, some _ c.if-length-eq0.false, fails w.ensures (ap not c.if-not-is_writable.true)) (refl, refl)
 
 pub returns-then-words-length : goal.returns-then-words-length
 unfolding write_answer write_words
-returns-then-words-length c =     let w = c.is_writable in
+returns-then-words-length c = let w = c.is_writable in
     rw (length_of c.args.settings c.event_length-length.ensures, some _ c.if-length-eq0.false, holds w.ensures (ap not c.if-not-is_writable.false), lt-leb _ _ c.if-words-length.true)
     (refl, refl)
 
 pub put_event-requires : goal.put_event-requires
-put_event-requires c =     let s = c.args in
+put_event-requires c = let s = c.args in
     let w = c.is_writable in
     let f = fields_fit_lem s.event (writable_parts s.settings s.event (holds w.ensures (ap not c.if-not-is_writable.false))).0 in
     (f.0, f.1, f.2, rw (length_of s.settings c.event_length-length.ensures) c.if-words-length.false)
 
 pub returns : goal.returns
 unfolding write_answer write_words
-returns c =     let s = c.args in
+returns c = let s = c.args in
     let w = c.is_writable in
     let e = length_of s.settings c.event_length-length.ensures in
     let some : event_length s.settings ≡ 0 → ⊥ = rw e c.if-length-eq0.false in

@@ -1,7 +1,5 @@
 -- Eight digits are four and four. Assumes nothing.
-use Rattle.std.proofs.Common.{rules}
 use Rattle.night.proofs.Tallying.{word_halves}
-use borrow.Author.Rules.{rules}
 use Rattle.night.proofs.tally.counted_to.Goals as goal
 
 pub returns : goal.returns

@@ -12,11 +12,11 @@ pub returns-then-number-eq0 : goal.returns-then-number-eq0
 returns-then-number-eq0 c = c.counted_to.ensures ∙ ap tally_of c.wrapping_add_u64-number.ensures.value
 
 pub overflow_add-result : goal.overflow_add-result
-overflow_add-result c =     let a = c in
+overflow_add-result c = let a = c in
     omega (arith, ap (λ (t : Tally). t.word) a.requires, word_below a.args.t.number)
 
 pub returns-then-t-ne57 : goal.returns-then-t-ne57
-returns-then-t-ne57 c =     let w = c.wrapping_add_u64-number in
+returns-then-t-ne57 c = let w = c.wrapping_add_u64-number in
     let a = c in
     let t = a.args.t in
     let k = counted_one t.number w.result (search rules) w.ensures.value c.if-number-eq0.false
@@ -30,11 +30,11 @@ pub returns-then-t-lt2 : goal.returns-then-t-lt2
 returns-then-t-lt2 c = c.counted_to-then-t-lt2.ensures ∙ ap tally_of c.wrapping_add_u64-number.ensures.value
 
 pub overflow_add-result-2 : goal.overflow_add-result-2
-overflow_add-result-2 c =     let a = c in
+overflow_add-result-2 c = let a = c in
     omega (arith, ap (λ (t : Tally). t.word) a.requires, word_below a.args.t.number)
 
 pub returns : goal.returns
-returns c =     let w = c.wrapping_add_u64-number in
+returns c = let w = c.wrapping_add_u64-number in
     let a = c in
     let t = a.args.t in
     let k = counted_two t.number w.result (search rules) w.ensures.value c.if-number-eq0.false

@@ -1,7 +1,6 @@
 -- The four digits, by the clauses of `word_of`. Assumes nothing.
-use Rattle.std.proofs.Common.{arith, rules}
+use Rattle.std.proofs.Common.{arith}
 use Rattle.night.specs.Tallies.{word_of}
-use borrow.Author.Rules.{rules}
 use Rattle.night.proofs.tally.four.Goals as goal
 
 pub returns : goal.returns

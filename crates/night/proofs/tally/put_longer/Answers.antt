@@ -15,19 +15,19 @@ pub returns-then-not-fits : goal.returns-then-not-fits
 returns-then-not-fits c = rw (sym c.fits.ensures ∙ not-true _ (ap not c.if-not-fits.true)) (refl, refl)
 
 pub put_word-requires : goal.put_word-requires
-put_word-requires c =     let e = c in
+put_word-requires c = let e = c in
     let a = e.args in
     let r : a.at + 63 ≤ length a.out.now = leb-true _ _ (sym e.fits.ensures ∙ not-false _ (ap not e.if-not-fits.false)) in
     omega arith
 
 pub overflow_add-at : goal.overflow_add-at
-overflow_add-at c =     let e = c in
+overflow_add-at c = let e = c in
     let a = e.args in
     let r : a.at + 63 ≤ length a.out.now = leb-true _ _ (sym e.fits.ensures ∙ not-false _ (ap not e.if-not-fits.false)) in
     omega arith
 
 pub returns : goal.returns
-returns c =     let p = c in
+returns c = let p = c in
     let t = p in
     let w = t in
     let e = w in

@@ -31,7 +31,7 @@ shape_of-out c = search rules depth 12
 
 pub returns : goal.returns
 unfolding bytes_of
-returns c =     let at = c.args.at in
+returns c = let at = c.args.at in
     let e1 : at + 1 ≡ suc at = omega arith in
     let e2 : at + 2 ≡ suc (suc at) = omega arith in
     let e3 : at + 3 ≡ suc (suc (suc at)) = omega arith in

@@ -1,8 +1,8 @@
 use mathlib.Core.Path.{◌≡◌, sym, ap, subst, ◌∙◌}
 use mathlib.Core.List.{List, [], ◌∷◌, ◌++◌}
-use Prim.Native.Nat.{ℕ, ◌+◌, ◌-◌, ◌≤◌}
+use Prim.Native.Nat.{ℕ, ◌+◌}
 use native.Mathlib.Omega.{arith}
-use lib.ListN.{length, get_or, drop, drop_of_length-le}
+use lib.ListN.{get_or, drop, drop_of_length-le}
 use Rattle.text.specs.Line.{line}
 use Rattle.text.specs.Text.{decimal}
 use Rattle.text.proofs.Decimal.{length_line}
@@ -11,11 +11,11 @@ use borrow.Author.Rules.{rules}
 use Rattle.text.proofs.lines.line_here.Goals as goal
 
 pub loop-i-init : goal.loop-i-init
-loop-i-init c =     let a = c.args in
+loop-i-init c = let a = c.args in
     (search rules, search rules, start (line a.numbers.now) a.out.now a.at (omega (arith, length_line a.numbers.now)))
 
 pub loop-i-preserved : goal.loop-i-preserved
-loop-i-preserved c =     let m = c in
+loop-i-preserved c = let m = c in
     let u = m in
     let l = u.loop-i in
     let a = u.args in
@@ -34,7 +34,7 @@ loop-i-preserved c =     let m = c in
 
 pub returns : goal.returns
 unfolding line
-returns c =     let l = c.loop-i in
+returns c = let l = c.loop-i in
     let a = c.args in
     let ns = a.numbers.now in
     let e : drop l.i ns ≡ [] = drop_of_length-le ns {i = l.i} (omega arith) in

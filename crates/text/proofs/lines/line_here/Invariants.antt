@@ -1,14 +1,9 @@
 -- Putting what is left gives the whole line; a turn puts a number and its mark. Assumes nothing.
-use mathlib.Core.Path.{◌≡◌, sym, ap, subst, ◌∙◌}
-use mathlib.Core.List.{List, [], ◌∷◌, ◌++◌}
-use Prim.Native.Nat.{ℕ, ◌+◌, ◌-◌, ◌≤◌}
-use native.Mathlib.Omega.{arith}
-use lib.ListN.{length, get_or, drop, drop_of_length-le}
+use mathlib.Core.Path.{◌≡◌}
+use Prim.Native.Nat.{◌-◌, ◌≤◌}
+use lib.ListN.{length, drop}
 use Rattle.text.specs.Line.{line}
-use Rattle.text.specs.Text.{decimal}
-use Rattle.text.proofs.Decimal.{length_line}
-use Rattle.text.proofs.Pieces.{Leaves, start, piece, end_place, end_whole, mark_left, line_cons}
-use borrow.Author.Rules.{rules}
+use Rattle.text.proofs.Pieces.{Leaves}
 use Rattle.text.proofs.lines.line_here.Given as goal
 
 abbrev pub invariant-loop-i : goal.invariant-loop-i

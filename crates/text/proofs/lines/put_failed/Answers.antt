@@ -5,7 +5,6 @@ use native.Mathlib.Omega.{arith}
 use borrow.Author.Tests.{leb-true, not-true, not-false}
 use lib.ListN.{length}
 use Rattle.text.specs.Line.{failed_line}
-use borrow.Author.Rules.{rules}
 use mathlib.Core.Bool.{not}
 use Rattle.text.proofs.lines.put_failed.Goals as goal
 
@@ -13,13 +12,13 @@ pub returns-then-not-fits : goal.returns-then-not-fits
 returns-then-not-fits c = rw (sym c.fits.ensures ∙ not-true _ (ap not c.if-not-fits.true)) (refl, refl)
 
 pub worded_here-requires : goal.worded_here-requires
-worded_here-requires c =     let e = c in
+worded_here-requires c = let e = c in
     let a = e.args in
     let r : a.at + 33 ≤ length a.out.now = leb-true _ _ (sym e.fits.ensures ∙ not-false _ (ap not e.if-not-fits.false)) in
     omega (arith, r)
 
 pub returns : goal.returns
 unfolding failed_line
-returns c =     let w = c in
+returns c = let w = c in
     let e = w in
     rw (sym e.fits.ensures ∙ not-false _ (ap not e.if-not-fits.false)) w.worded_here.ensures

@@ -8,7 +8,6 @@ use Rattle.text.specs.Line.{line}
 use Rattle.text.specs.Text.{put}
 use Rattle.text.proofs.Decimal.{length_line}
 use Rattle.text.proofs.Putting.{after_fits, put_more}
-use borrow.Author.Rules.{rules}
 use Rattle.text.proofs.lines.worded_here.Goals as goal
 
 pub line_here-requires : goal.line_here-requires
@@ -18,7 +17,7 @@ line_here-requires c =
     omega (arith, p, c.put_text-p.auto.out)
 
 pub returns : goal.returns
-returns c =     let l = c in
+returns c = let l = c in
     let w = l in
     let a = w.args in
     let h : a.at + length a.word.now ≤ length a.out.now = omega arith in

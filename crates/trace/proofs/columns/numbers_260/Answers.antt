@@ -1,13 +1,12 @@
 -- The first columns, the counts and the latches fill the line behind the entry's number. Assumes nothing.
-use Rattle.std.proofs.Common.{ℕ, List, ◌∷◌, ◌++◌, replicate, ap, ◌∙◌, arith, rules}
+use Rattle.std.proofs.Common.{ℕ, List, ◌∷◌, ◌++◌, replicate, ap, ◌∙◌, arith}
 use Rattle.text.specs.Text.{put}
 use Rattle.trace.specs.Columns.{first_of}
 use Rattle.trace.proofs.Filled.{behind}
-use borrow.Author.Rules.{rules}
 use Rattle.trace.proofs.columns.numbers_260.Goals as goal
 
 pub returns : goal.returns
-returns c =     let s = c in
+returns c = let s = c in
     let p = s in
     let f = p in
     let a = f.args in

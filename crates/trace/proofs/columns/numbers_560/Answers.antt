@@ -1,14 +1,13 @@
 -- The first columns, its own two, the counts and the latches fill the line behind the entry's number. Assumes nothing.
-use Rattle.std.proofs.Common.{◌≡◌, ℕ, List, [], ◌∷◌, ◌++◌, replicate, ap, ◌∙◌, ap₂, arith, rules}
+use Rattle.std.proofs.Common.{◌≡◌, ℕ, List, [], ◌∷◌, ◌++◌, replicate, ap, ◌∙◌, ap₂, arith}
 use Rattle.text.specs.Text.{put}
 use Rattle.text.proofs.Putting.{put_more}
 use Rattle.trace.specs.Columns.{first_of, own_of}
 use Rattle.trace.proofs.Filled.{behind}
-use borrow.Author.Rules.{rules}
 use Rattle.trace.proofs.columns.numbers_560.Goals as goal
 
 pub returns : goal.returns
-returns c =     let s = c in
+returns c = let s = c in
     let q = s in
     let p = q in
     let z = p in

@@ -10,7 +10,7 @@ pub slice_bounds-put_words-end-4 : goal.slice_bounds-put_words-end-4
 slice_bounds-put_words-end-4 c = sym ((let h : length c.args.t.v830.counts ≡ 32 = search rules in h))
 
 pub returns : goal.returns
-returns c =     let q = c in
+returns c = let q = c in
     let p = q in
     let f = p in
     let a = f.args in

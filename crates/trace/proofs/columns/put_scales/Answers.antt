@@ -6,7 +6,7 @@ use borrow.Author.Rules.{rules}
 use Rattle.trace.proofs.columns.put_scales.Goals as goal
 
 pub returns : goal.returns
-returns c =     let p₂ = c in
+returns c = let p₂ = c in
     let p₁ = p₂ in
     let l = p₁ in
     let a = l.args in

@@ -4,7 +4,6 @@ use Rattle.bus.specs.Interrupting.{well_formed}
 use Rattle.bus.proofs.Places.{places_narrow, right_of}
 use Rattle.count.proofs.Tests.{holds, fails}
 use Rattle.v260.specs.Registers.{registers}
-use borrow.Author.Rules.{rules}
 use mathlib.Core.Bool.{not}
 use Rattle.v260.proofs.by_value.access.Goals as goal
 
@@ -12,16 +11,16 @@ pub returns-then-not-is_formed : goal.returns-then-not-is_formed
 returns-then-not-is_formed c = rw (fails c.is_formed.ensures (ap not c.if-not-is_formed.true)) c.refused.ensures
 
 pub perform-requires : goal.perform-requires
-perform-requires c =     let l = c in
+perform-requires c = let l = c in
     let w = l in
     let a = w.args in
     let h = right_of (well_formed a.i) _ (holds w.is_formed.ensures (ap not l.if-not-is_formed.false)) in
     (rw (sym l.looked_up.ensures ∙ c.in-At.is) at (places_narrow (λ _. 16) 0 registers a.a refl), h)
 
 pub returns-in-Refused : goal.returns-in-Refused
-returns-in-Refused c =     let l = c in
+returns-in-Refused c = let l = c in
     rw (holds l.is_formed.ensures (ap not l.if-not-is_formed.false), sym l.looked_up.ensures ∙ c.in-Refused.is) c.refused-in-Refused.ensures
 
 pub returns-in-At : goal.returns-in-At
-returns-in-At c =     let l = c in
+returns-in-At c = let l = c in
     rw (holds l.is_formed.ensures (ap not l.if-not-is_formed.false), sym l.looked_up.ensures ∙ c.in-At.is) c.perform.ensures

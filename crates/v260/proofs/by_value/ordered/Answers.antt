@@ -1,6 +1,5 @@
 -- 12, or what the order does. Assumes nothing.
 use Rattle.count.proofs.Tests.{holds, fails}
-use borrow.Author.Rules.{rules}
 use mathlib.Core.Path.{ap}
 use mathlib.Core.Bool.{not}
 use Rattle.v260.proofs.by_value.ordered.Goals as goal

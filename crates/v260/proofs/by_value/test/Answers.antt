@@ -1,6 +1,5 @@
 -- 12, or TEST. Assumes nothing.
 use Rattle.count.proofs.Tests.{holds, fails}
-use borrow.Author.Rules.{rules}
 use mathlib.Core.Path.{ap}
 use mathlib.Core.Bool.{not}
 use Rattle.v260.proofs.by_value.test.Goals as goal

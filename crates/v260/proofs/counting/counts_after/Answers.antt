@@ -1,13 +1,11 @@
 use mathlib.Core.Path.{◌≡◌, refl, sym, ap, ◌∙◌}
-use Prim.Native.Nat.{◌<◌}
 use Rattle.count.specs.declared.Ticked.{Ticked}
 use mathlib.Core.Bool.{true, false, not}
-use lib.ListN.{length, get_or, length-set}
+use lib.ListN.{get_or, length-set}
 use Rattle.count.specs.Counter.{carries}
-use Rattle.scaler.specs.Clock.{clocked}
 use Rattle.scaler.proofs.Clocks.{clocked_stops, clocked_on, clocked_over}
 use Rattle.count.proofs.Tests.{holds, fails}
-use Rattle.v260.specs.Counting.{after, is_joined, pulsed}
+use Rattle.v260.specs.Counting.{after, is_joined}
 use borrow.Author.Rules.{rules}
 use Rattle.v260.proofs.counting.counts_after.Goals as goal
 
@@ -15,7 +13,7 @@ pub loop-left-init : goal.loop-left-init
 loop-left-init c = (search rules, search rules, refl)
 
 pub returns-then-not-ticked : goal.returns-then-not-ticked
-returns-then-not-ticked c =     let u = c in
+returns-then-not-ticked c = let u = c in
     let t = u.tick-ticked in
     let l = u.loop-left in
     let switches = u.args.switches in
@@ -23,7 +21,7 @@ returns-then-not-ticked c =     let u = c in
     rw t.ensures (sym (clocked_stops 24 (λ k. is_joined switches (after k)) after l.left l.k l.counts (search rules) (rw n)) ∙ l.invariant.2)
 
 pub returns-then-not-is_joined : goal.returns-then-not-is_joined
-returns-then-not-is_joined c =     let u = c in
+returns-then-not-is_joined c = let u = c in
     let t = u.tick-ticked in
     let l = u.loop-left in
     let switches = u.args.switches in
@@ -32,7 +30,7 @@ returns-then-not-is_joined c =     let u = c in
     rw t.ensures (sym (clocked_stops 24 (λ k. is_joined switches (after k)) after l.left l.k l.counts (search rules) (rw (n, j))) ∙ l.invariant.2)
 
 pub loop-left-preserved : goal.loop-left-preserved
-loop-left-preserved c =     let u = c in
+loop-left-preserved c = let u = c in
     let t = u.tick-ticked in
     let l = u.loop-left in
     let switches = u.args.switches in

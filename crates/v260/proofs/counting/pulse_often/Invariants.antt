@@ -1,10 +1,7 @@
 -- The invariant: the pulses that are left give what all of them give. Assumes nothing.
-use mathlib.Core.Path.{◌≡◌, refl, sym, ap, ◌∙◌}
+use mathlib.Core.Path.{◌≡◌}
 use Rattle.count.specs.Counter.{iterate}
-use Rattle.count.proofs.Repeats.{iterate_turn, iterate_over}
 use Rattle.v260.specs.Counting.{pulse}
-use Rattle.v260.specs.Outcomes.{done}
-use borrow.Author.Rules.{rules}
 use Rattle.v260.proofs.counting.pulse_often.Given as goal
 
 abbrev pub invariant-loop-left : goal.invariant-loop-left

@@ -1,6 +1,4 @@
 -- Each row is one test of the definition. Assumes nothing.
-use borrow.Author.Tests.{ne_eqb}
-use borrow.Author.Rules.{rules}
 use Rattle.v260.proofs.registers.perform.Goals as goal
 
 pub returns-in-0 : goal.returns-in-0
@@ -38,4 +36,3 @@ returns-in-11 c = rw c.in-11.is c.done-in-11.ensures
 
 pub returns-in-12 : goal.returns-in-12
 returns-in-12 c = rw (c.in-12.is, ← c.vectored.ensures) c.done-in-12.ensures
-

@@ -6,7 +6,6 @@ use Rattle.bus.proofs.Places.{places_narrow}
 use Rattle.count.proofs.Tests.{holds, fails}
 use Rattle.v560.specs.Registers.{registers}
 use borrow.Author.Tests.{leb-true}
-use borrow.Author.Rules.{rules}
 use mathlib.Core.Bool.{not}
 use Rattle.v560.proofs.by_value.access.Goals as goal
 
@@ -14,16 +13,16 @@ pub returns-then-not-is_well_formed : goal.returns-then-not-is_well_formed
 returns-then-not-is_well_formed c = rw (fails c.is_well_formed.ensures (ap not c.if-not-is_well_formed.true)) c.refused.ensures
 
 pub perform-requires : goal.perform-requires
-perform-requires c =     let l = c in
+perform-requires c = let l = c in
     let w = l in
     let a = w.args in
     let h : a.i.level ≤ 7 = leb-true a.i.level 7 (holds w.is_well_formed.ensures (ap not l.if-not-is_well_formed.false)) in
     (rw (sym l.looked_up.ensures ∙ c.in-At.is) at (places_narrow (λ _. 16) 0 registers a.a refl), omega arith)
 
 pub returns-in-Refused : goal.returns-in-Refused
-returns-in-Refused c =     let l = c in
+returns-in-Refused c = let l = c in
     rw (holds l.is_well_formed.ensures (ap not l.if-not-is_well_formed.false), sym l.looked_up.ensures ∙ c.in-Refused.is) c.refused-in-Refused.ensures
 
 pub returns-in-At : goal.returns-in-At
-returns-in-At c =     let l = c in
+returns-in-At c = let l = c in
     rw (holds l.is_well_formed.ensures (ap not l.if-not-is_well_formed.false), sym l.looked_up.ensures ∙ c.in-At.is) c.perform.ensures

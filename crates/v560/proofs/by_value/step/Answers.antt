@@ -1,5 +1,4 @@
 -- By cases on the call. Assumes nothing.
-use borrow.Author.Rules.{rules}
 use Rattle.v560.proofs.by_value.step.Goals as goal
 
 pub returns-in-Pulses : goal.returns-in-Pulses

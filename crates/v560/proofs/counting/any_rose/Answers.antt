@@ -1,8 +1,5 @@
 use mathlib.Core.Path.{sym, ◌∙◌}
-use Prim.Native.Nat.{◌-◌}
-use lib.ListN.{get_or}
-use Rattle.scaler.proofs.Any.{Looking, any_start, any_found, any_missed, any_over}
-use Rattle.v560.specs.Counting.{rise_at}
+use Rattle.scaler.proofs.Any.{any_start, any_found, any_missed, any_over}
 use borrow.Author.Rules.{rules}
 use Rattle.v560.proofs.counting.any_rose.Goals as goal
 

@@ -1,10 +1,8 @@
 -- The invariant: the channels that are left to look through give what all sixteen give. Assumes nothing.
-use mathlib.Core.Path.{sym, ◌∙◌}
 use Prim.Native.Nat.{◌-◌}
 use lib.ListN.{get_or}
-use Rattle.scaler.proofs.Any.{Looking, any_start, any_found, any_missed, any_over}
+use Rattle.scaler.proofs.Any.{Looking}
 use Rattle.v560.specs.Counting.{rise_at}
-use borrow.Author.Rules.{rules}
 use Rattle.v560.proofs.counting.any_rose.Given as goal
 
 abbrev pub invariant-loop-k : goal.invariant-loop-k

@@ -1,5 +1,4 @@
 -- What rose among the sixteen raises the request. Assumes nothing.
-use borrow.Author.Rules.{rules}
 use Rattle.v560.proofs.counting.count_to.Goals as goal
 
 pub returns : goal.returns

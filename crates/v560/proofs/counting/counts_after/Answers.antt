@@ -11,7 +11,6 @@ use Rattle.bus.proofs.Choices.{cond_same}
 use Rattle.count.proofs.Tests.{holds, fails}
 use Rattle.v560.specs.Counting.{is_joined, is_low}
 use borrow.Author.Tests.{eqb-true}
-use borrow.Author.Rules.{rules}
 use Rattle.v560.proofs.counting.counts_after.Goals as goal
 
 -- the low part of a section is odd
@@ -20,28 +19,28 @@ odd joined k e = eqb-true (k % 2) 1 (right_of (is_joined joined k) (eqb (k % 2) 
 
 pub returns-then-not-low : goal.returns-then-not-low
 unfolding clocked
-returns-then-not-low c =     let t = c.tick-low in
+returns-then-not-low c = let t = c.tick-low in
     let n = fails (ap (λ (t : Ticked). t.carry) t.ensures) c.if-not-low.true in
     rw (n, t.ensures)
 
 pub returns-then-not-is_low : goal.returns-then-not-is_low
 unfolding clocked
-returns-then-not-is_low c =     let t = c.tick-low in
+returns-then-not-is_low c = let t = c.tick-low in
     let n = holds (ap (λ (t : Ticked). t.carry) t.ensures) c.if-not-low.false in
     rw (n, fails c.is_low.ensures (ap not c.if-not-is_low.true), t.ensures)
 
 pub overflow_sub-channel : goal.overflow_sub-channel
-overflow_sub-channel c =     let k = c.args.channel in
+overflow_sub-channel c = let k = c.args.channel in
     omega (arith, odd c.args.joined k (holds c.is_low.ensures (ap not c.if-not-is_low.false)))
 
 pub overflow_sub-counts : goal.overflow_sub-counts
-overflow_sub-counts c =     let l = c in
+overflow_sub-counts c = let l = c in
     let k = l.args.channel in
     omega (arith, odd l.args.joined k (holds l.is_low.ensures (ap not c.if-not-is_low.false)))
 
 pub returns : goal.returns
 unfolding clocked
-returns c =     let l = c in
+returns c = let l = c in
     let t = l.tick-low in
     let n = holds (ap (λ (t : Ticked). t.carry) t.ensures) l.if-not-low.false in
     rw (n, holds l.is_low.ensures (ap not c.if-not-is_low.false), cond_same, c.tick-high.ensures, t.ensures)

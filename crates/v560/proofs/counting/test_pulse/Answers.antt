@@ -1,7 +1,6 @@
 -- 4 with a channel joined; inhibited, nothing; else each channel counts. Assumes nothing.
 use mathlib.Core.Path.{sym, ◌∙◌}
 use borrow.Author.Tests.{eq-eqb, ne_eqb}
-use borrow.Author.Rules.{rules}
 use Rattle.v560.proofs.counting.test_pulse.Goals as goal
 
 pub returns-then-s-ne0 : goal.returns-then-s-ne0
@@ -11,5 +10,5 @@ pub returns-then-is_inhibited : goal.returns-then-is_inhibited
 returns-then-is_inhibited c = rw (eq-eqb _ _ c.if-s-ne0.false, sym c.is_inhibited.ensures ∙ c.if-is_inhibited.true) c.done.ensures
 
 pub returns : goal.returns
-returns c =     let e = c in
+returns c = let e = c in
     rw (eq-eqb _ _ e.if-s-ne0.false, sym e.is_inhibited.ensures ∙ e.if-is_inhibited.false, ← c.tick_each.ensures) c.count_to.ensures

@@ -1,7 +1,6 @@
 -- 12, then 10. Assumes nothing.
 use mathlib.Core.Path.{sym, ◌∙◌, ap}
 use Rattle.count.proofs.Tests.{holds, fails}
-use borrow.Author.Rules.{rules}
 use mathlib.Core.Bool.{not}
 use Rattle.v830.proofs.calls.gate.Goals as goal
 

@@ -1,6 +1,5 @@
 -- Each deed is one clause of the definition. Assumes nothing.
 use mathlib.Core.Path.{refl}
-use borrow.Author.Rules.{rules}
 use Rattle.v830.proofs.calls.perform.Goals as goal
 
 pub counter-requires : goal.counter-requires

@@ -2,7 +2,6 @@
 use mathlib.Core.Path.{refl, ap}
 use Rattle.count.proofs.Tests.{holds, fails}
 use Rattle.v830.proofs.Narrow.{counter_narrow}
-use borrow.Author.Rules.{rules}
 use mathlib.Core.Bool.{not}
 use Rattle.v830.proofs.calls.step.Goals as goal
 

@@ -1,7 +1,6 @@
 -- The gate lets pass what is given, and the deed reads a counter that there is (`counter_narrow`). Assumes nothing.
 use Rattle.meb.specs.Ring.{lent}
 use Rattle.v830.proofs.Narrow.{counter_narrow, lent_right}
-use borrow.Author.Rules.{rules}
 use Rattle.v830.proofs.calls.step_formed.Goals as goal
 
 pub perform-requires : goal.perform-requires

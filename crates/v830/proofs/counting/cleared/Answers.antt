@@ -1,5 +1,4 @@
 -- Bit 6 of Control says whether the memory is emptied. Assumes nothing.
-use borrow.Author.Rules.{rules}
 use Rattle.v830.proofs.counting.cleared.Goals as goal
 
 pub returns : goal.returns

@@ -1,7 +1,6 @@
 -- 11 for a channel that there is not, else the pulses. Assumes nothing.
 use native.Mathlib.Omega.{arith}
 use borrow.Author.Tests.{lt-ltb, le-ltb}
-use borrow.Author.Rules.{rules}
 use Rattle.v830.proofs.counting.pulsed.Goals as goal
 
 pub returns-then-channel-gt31 : goal.returns-then-channel-gt31

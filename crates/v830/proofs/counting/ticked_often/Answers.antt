@@ -1,5 +1,5 @@
-use mathlib.Core.Path.{◌≡◌, refl, sym, ◌∙◌}
-use Rattle.count.specs.Counter.{next, iterate}
+use mathlib.Core.Path.{refl, sym, ◌∙◌}
+use Rattle.count.specs.Counter.{next}
 use Rattle.count.proofs.Repeats.{iterate_turn, iterate_over}
 use borrow.Author.Rules.{rules}
 use Rattle.v830.proofs.counting.ticked_often.Goals as goal

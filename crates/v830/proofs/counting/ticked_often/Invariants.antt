@@ -1,8 +1,6 @@
 -- The invariant: the ticks that are left give what all of them give. Assumes nothing.
-use mathlib.Core.Path.{◌≡◌, refl, sym, ◌∙◌}
+use mathlib.Core.Path.{◌≡◌}
 use Rattle.count.specs.Counter.{next, iterate}
-use Rattle.count.proofs.Repeats.{iterate_turn, iterate_over}
-use borrow.Author.Rules.{rules}
 use Rattle.v830.proofs.counting.ticked_often.Given as goal
 
 abbrev pub invariant-loop-left : goal.invariant-loop-left

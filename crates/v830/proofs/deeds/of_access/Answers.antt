@@ -1,6 +1,5 @@
 -- The two cases of the look-up. Assumes nothing.
 use mathlib.Core.Path.{sym, ◌∙◌}
-use borrow.Author.Rules.{rules}
 use Rattle.v830.proofs.deeds.of_access.Goals as goal
 
 pub returns-in-Refused : goal.returns-in-Refused

@@ -1,5 +1,4 @@
 -- By cases on the call. Assumes nothing.
-use borrow.Author.Rules.{rules}
 use Rattle.v830.proofs.deeds.of_call.Goals as goal
 
 pub returns-in-Pulses : goal.returns-in-Pulses

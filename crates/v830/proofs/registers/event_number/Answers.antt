@@ -1,6 +1,5 @@
 -- The two cases of `events_in`. Assumes nothing.
 use mathlib.Core.Path.{sym, ◌∙◌}
-use borrow.Author.Rules.{rules}
 use Rattle.v830.proofs.registers.event_number.Goals as goal
 
 pub returns-in-Number : goal.returns-in-Number

@@ -9,9 +9,9 @@ pub returns-then-stored-eq0 : goal.returns-then-stored-eq0
 returns-then-stored-eq0 c = rw (eq-eqb _ _ c.if-stored-eq0.true)
 
 pub returns-then-s-ne0 : goal.returns-then-s-ne0
-returns-then-s-ne0 c =     let known = c in
+returns-then-s-ne0 c = let known = c in
     rw (ne_eqb _ _ known.if-stored-eq0.false, has_words (settings known.args.s) (search rules), ne_eqb _ _ c.if-s-ne0.true)
 
 pub returns : goal.returns
-returns c =     let known = c in
+returns c = let known = c in
     rw (ne_eqb _ _ known.if-stored-eq0.false, has_words (settings known.args.s) (search rules), eq-eqb _ _ c.if-s-ne0.false) c.is_set.ensures

@@ -2,7 +2,6 @@
 use borrow.Author.Tests.{lt-leb, le-leb}
 use Rattle.count.proofs.Tests.{holds, fails}
 use Rattle.v830.specs.State.{formed}
-use borrow.Author.Rules.{rules}
 use mathlib.Core.Path.{ap}
 use mathlib.Core.Bool.{not}
 use Rattle.v830.proofs.state.is_formed.Goals as goal

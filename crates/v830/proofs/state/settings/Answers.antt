@@ -1,5 +1,4 @@
 -- Two bits of Control, and Channel Enable. Assumes nothing.
-use borrow.Author.Rules.{rules}
 use Rattle.v830.proofs.state.settings.Goals as goal
 
 pub returns : goal.returns

@@ -1,6 +1,5 @@
 -- The Trigger Counter, the words stored, and with AUTO RESET the counters. Assumes nothing.
 use mathlib.Core.Path.{sym, ◌∙◌}
-use borrow.Author.Rules.{rules}
 use Rattle.v830.proofs.trigger.counted.Goals as goal
 
 pub returns-then-is_set : goal.returns-then-is_set

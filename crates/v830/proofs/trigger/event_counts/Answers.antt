@@ -1,8 +1,6 @@
-use mathlib.Core.Path.{◌≡◌, refl}
-use Prim.Native.Nat.{◌-◌, ◌≤◌}
-use lib.ListN.{length}
+use mathlib.Core.Path.{refl}
 use Rattle.v830.specs.Trigger.{event_counts}
-use Rattle.count.proofs.Mapping.{Mapping, map_start, map_turn, map_over}
+use Rattle.count.proofs.Mapping.{map_start, map_turn, map_over}
 use borrow.Author.Rules.{rules}
 use Rattle.v830.proofs.trigger.event_counts.Goals as goal
 

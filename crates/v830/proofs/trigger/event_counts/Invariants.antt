@@ -1,10 +1,9 @@
 -- The invariant: what is taken, and what is left to take, give the whole. Assumes nothing.
-use mathlib.Core.Path.{◌≡◌, refl}
+use mathlib.Core.Path.{◌≡◌}
 use Prim.Native.Nat.{◌-◌, ◌≤◌}
 use lib.ListN.{length}
 use Rattle.v830.specs.Trigger.{event_counts}
-use Rattle.count.proofs.Mapping.{Mapping, map_start, map_turn, map_over}
-use borrow.Author.Rules.{rules}
+use Rattle.count.proofs.Mapping.{Mapping}
 use Rattle.v830.proofs.trigger.event_counts.Given as goal
 
 abbrev pub invariant-loop-k : goal.invariant-loop-k

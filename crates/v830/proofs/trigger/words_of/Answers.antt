@@ -17,7 +17,7 @@ use borrow.Author.Rules.{rules}
 use Rattle.v830.proofs.trigger.words_of.Goals as goal
 
 pub returns : goal.returns
-returns c =     let a = c.args in
+returns c = let a = c.args in
     let p = c.requires in
     let st = settings a.s in
     let ev = event_of a.by a.s in
