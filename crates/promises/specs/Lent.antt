@@ -1,6 +1,6 @@
--- Document 01, "How much each promise says", of a contract that the check does not read off, since its function is
--- lent a record and proved by a walk: in every model, of any two results and any two contents of what was lent, each
--- permitted by the function's own clauses, it follows that they are equal. Assumes nothing.
+-- Document 01, "How much each promise says", of the contract of a function that is lent a record: in every model, of
+-- any two results and any two contents of what was lent, each permitted by the function's own clauses, it follows that
+-- they are equal. Assumes nothing.
 use Rattle.std.specs.Prelude.{◌≡◌}
 use seplogic.Ra.Ura.{Ura}
 use base.Logic.{SProp, ent}

@@ -6,6 +6,7 @@ ghost use Rattle.stdio.specs.Listings.{begun, place_of, is_well, ReadOn, moved_t
 
 use crate::words::{failed, say};
 use crate::{Amiss, Listing, refill};
+use std::io;
 
 // A listing of which nothing is read yet, with `at` bytes in the output buffer.
 pub fn begin(at: usize) -> Listing
@@ -102,6 +103,19 @@ fn lost(l: Listing, amiss: Amiss) -> Listing
     }
 }
 
+// Writes all of the bytes to standard output; the first write that fails, or takes nothing, ends it.
+fn write_whole(rt: &HostRuntime, bytes: &[u8]) -> io::Result<()> {
+    let mut done = 0;
+    while done < bytes.len() {
+        let taken = rt.stdout().write_some(&bytes[done..])?;
+        if taken == 0 {
+            return Err(io::Error::from_raw_os_error(0));
+        }
+        done += taken;
+    }
+    Ok(())
+}
+
 // Writes what stands in the output buffer to standard output; where that fails the listing ends, and no more is
 // written.
 pub fn flush(rt: &HostRuntime, out: &[u8], l: Listing) -> Listing
@@ -115,7 +129,7 @@ pub fn flush(rt: &HostRuntime, out: &[u8], l: Listing) -> Listing
     if at > out.len() {
         return moved(l, 0);
     }
-    match rt.stdout().write_all(&out[..at]) {
+    match write_whole(rt, &out[..at]) {
         Ok(()) => moved(l, 0),
         Err(error) => lost(l, Amiss::Write(failed(rt, b"failed write ", error))),
     }
