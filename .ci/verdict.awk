@@ -1,58 +1,94 @@
-# What a check said: awk -f verdict.awk LOG, which prints 'proved', or where the check failed first: the function (or
-# the file of laws) and the need in it; or 'no refusal: ' and why this is none: a message of scope, syntax or type
-# says nothing of what a program does.
+# What 'rt must-fail' said of the wrong programs of a crate, beside what it had to say: awk -v name=CRATE -v crate=FOLDER
+# -v seconds=N -v tally=FILE -f verdict.awk NEEDS LOG. NEEDS has a line for each, its label and its need with a tab
+# between them, where the need of a control is 'proved'. It prints those that came out otherwise, and a line of how
+# many did not; the tally gets three numbers: those refused as they must be, the controls proved, and those not so.
 
-# The character at a column of a line of a file, counted in characters and not in bytes.
-function letter(file, row, column,    line, i, n, c) {
-    while (row-- > 0) if ((getline line < file) <= 0) line = ""
-    close(file)
-    for (i = 1; i <= length(line); i++) {
-        c = substr(line, i, 1)
-        if (c !~ /[\200-\277]/ && ++n == column) return c
+# The function that holds a line of a file of src/, by its path in the crate.
+function function_at(file, row,    path, module, type, found, line, word) {
+    path = file
+    sub(/^src\//, "", path)
+    sub(/\.rt$/, "", path)
+    gsub(/\//, "::", path)
+    module = path ~ /^(lib|main)$/ ? "" : path "::"
+    while (row-- > 0 && (getline line < (crate "/" file)) > 0) {
+        if (line ~ /^}/) type = ""
+        if (line ~ /^impl[ <]/) {
+            type = line
+            sub(/ *\{.*/, "", type)
+            sub(/.* /, "", type)
+            sub(/<.*/, "", type)
+            type = type "::"
+        }
+        if (match(line, /^ *(pub(\([a-z]*\))? )?(const )?fn [A-Za-z0-9_]+/)) {
+            word = substr(line, RSTART, RLENGTH)
+            sub(/.* /, "", word)
+            found = module type word
+        }
     }
-    return ""
+    close(crate "/" file)
+    return found
 }
 
-# What could not be checked only because something before it failed is no error of its own.
-/ was not admitted \(/ { next }
-
-# The first error, of a proof that is written ..
-!place && match($0, /^[^ ]*\/(proofs|specs|src)\/[^ ]*: error: /) {
-    place = substr($0, 1, RLENGTH - 9)
-    message = substr($0, RLENGTH + 1)
-    split(substr(place, match(place, /:[0-9]+:[0-9]+$/)), at, ":")
-    sub(/:[0-9]+:[0-9]+$/, "", place)
-    file = place
-    if (place ~ /\/src\/[^\/]*$/) fault = "it is no program"
-    if (place ~ /\/specs\/[^\/]*$/) fault = "a definition is none"
-    sub(/^.*\/(proofs|specs|src)\//, "", place)
-    sub(/(\/Proof)?\.antt$/, "", place)
-    gsub(/\//, "::", place)
-    need = message
-    if (!sub(/^`/, "", need) || !sub(/`:.*/, "", need)) need = ""
-    # a function that is lent a record is walked whole: what is left of its promise are the p and the q at the end of
-    # its proof
-    if (need ~ /-spec$/) {
-        need = letter(file, at[2], at[3])
-        if (need !~ /^[pq]$/) fault = "the proof's form does not fit"
+# Where a check failed, from the line by which rt tells it: a function (or a file of laws) and the goal there; or
+# 'no refusal: ' and that line. A function's goal that has no answer is told by the place in the code that owes it.
+function need_in(told,    rest, place, at) {
+    if (match(told, /^note: src\/[^:]*:[0-9]+:[0-9]+: it is not proved that .*\(`[^`]*`\)/)) {
+        rest = substr(told, RSTART, RLENGTH)
+        split(substr(rest, 7), at, ":")
+        sub(/`\)$/, "", rest)
+        sub(/.*\(`/, "", rest)
+        return function_at(at[1], at[2]) " " rest
     }
-    if (message ~ /(is|are) not in scope|has no field|has no `|unknown name|was read as|cannot go on with|expected a /) fault = "a name or a form does not fit"
+    if (match(told, /^(\.\/)?proofs\/[^:]*:[0-9]+:[0-9]+: error: `[^`]*`/)) {
+        rest = substr(told, RSTART, RLENGTH - 1)
+        place = rest
+        sub(/.*`/, "", rest)
+        sub(/:.*/, "", place)
+        sub(/^(\.\/)?proofs\//, "", place)
+        sub(/(\/(Answers|Invariants|Proof))?\.antt$/, "", place)
+        gsub(/\//, "::", place)
+        return place " " rest
+    }
+    return "no refusal: it fails at no goal: " told
 }
 
-# .. or of one that is left to a search.
-!place && /^fn [^ ]*: no proof: / {
-    place = $2
-    sub(/^[^:]*::/, "", place)
-    sub(/:$/, "", place)
-    need = message = $0
-    if (!sub(/.*does not close `/, "", need) || !sub(/`.*/, "", need)) need = ""
+# The same, from all that rt said of one program.
+function verdict(said) {
+    if (sub(/^refused, as it must be: /, "", said)) return need_in(said)
+    if (said ~ /^NOT REFUSED/) return "proved"
+    return "no refusal: " said
 }
-!place && /(^|: )error(\[|:)/ { place = "?"; fault = "it did not reach the prover"; message = $0 }
-/^logic=proved / { proved = 1 }
-/^logic=not-proved/ { refused = 1 }
+
+NR == FNR {
+    split($0, pair, "\t")
+    labels[++n] = pair[1]
+    need[pair[1]] = pair[2]
+    next
+}
+index($0, "rt: must-fail " name "/") == 1 {
+    label = substr($0, length("rt: must-fail " name "/") + 1)
+    at = index(label, ".edit: ")
+    came[substr(label, 1, at - 1)] = verdict(substr(label, at + length(".edit: ")))
+    next
+}
+{ other = other "\n" $0 }
 END {
-    if (proved && !place) print "proved"
-    else if (fault) print "no refusal: " fault ": " message
-    else if (!refused || need == "") print "no refusal: no need of a proof fails: " message
-    else print place, need
+    for (i = 1; i <= n; i++) {
+        label = labels[i]
+        if (!(label in came)) {
+            came[label] = "no refusal: rt said nothing of it"
+            silent = 1
+        }
+        if (came[label] == need[label]) {
+            if (need[label] == "proved") controls++
+            else refused++
+            continue
+        }
+        bad++
+        if (need[label] == "proved") print "audit: " name "/" label ": NOT PROVED: " came[label]
+        else print "audit: " name "/" label ": NOT REFUSED at '" need[label] "': " came[label]
+    }
+    if (silent) print "audit: " name ": rt said:" other
+    printf "audit: %s: %d refused, %d controls proved, %d not so, %d s\n", name, refused, controls, bad, seconds
+    printf "%d %d %d\n", refused, controls, bad > tally
 }
