@@ -9,7 +9,7 @@ function shape_of(line,    out, before, word) {
     if (line ~ /^(ghost )?use /) return "a name brought in"
     sub(/\/\/.*/, "", line)
     gsub(/b?'[^']*'|b?"[^"]*"/, "0", line)
-    gsub(/ \.[A-Za-z0-9_]+/, "", line)
+    gsub(/\)(\.[A-Za-z0-9_]+)+/, ")", line)
     out = ""
     while (match(line, /[A-Za-z0-9_]+((::|\.)[A-Za-z0-9_]+)*/)) {
         before = substr(line, 1, RSTART - 1)
