@@ -1,7 +1,8 @@
-# What 'rt must-fail' said of the wrong programs of a crate, beside what it had to say: awk -v name=CRATE -v crate=FOLDER
-# -v seconds=N -v tally=FILE -f verdict.awk NEEDS LOG. NEEDS has a line for each, its label and its need with a tab
-# between them, where the need of a control is 'proved'. It prints those that came out otherwise, and a line of how
-# many did not; the tally gets three numbers: those refused as they must be, the controls proved, and those not so.
+# What 'rt must-fail' said of the wrong programs of a crate, beside what it had to say: awk -v name=CRATE -v
+# crate=FOLDER -v seconds=N -v tally=FILE -f verdict.awk NEEDS LOG. NEEDS has a line for each, its label and its need
+# with a tab between them, where the need of a control is 'proved'. It prints those that came out otherwise, and a
+# line of how many did not; the tally gets three numbers: those refused as they must be, the controls proved, and
+# those not so.
 
 # The function that holds a line of a file of src/, by its path in the crate.
 function function_at(file, row,    path, module, type, found, line, word) {
