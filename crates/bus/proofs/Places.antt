@@ -8,16 +8,17 @@ use native.Mathlib.Omega.{arith}
 use borrow.Author.Tests.{leb-true, ltb-true}
 use lib.Dec.{leb, ltb}
 use Rattle.bus.specs.declared.Access.{Access}
-use Rattle.bus.specs.declared.Answer.TheVariants.{WrongWidth, WrongDirection}
+use Rattle.bus.specs.declared.Refusal.{Refusal}
+use Rattle.bus.specs.declared.Refusal.TheVariants.{WrongWidth, WrongDirection}
 use Rattle.bus.specs.declared.table.Row.{Row}
-use Rattle.bus.specs.declared.table.Register.{Register}
-use Rattle.bus.specs.declared.table.Register.TheVariants.{At, Refused}
+use Rattle.bus.specs.declared.table.Reached.{Reached}
+use Rattle.std.specs.Prelude.{Result, Ok, Err}
 use Rattle.bus.specs.Table.{covers, takes_width, takes_direction, reach, look_up}
 
 -- what is reached is one of the places of its row, of which row `at` has at most n at
-abbrev pub Within : (ℕ → ℕ) → Register → Type 0
-Within n (At at place) = place < n at
-Within n (Refused why) = Unit {0}
+abbrev pub Within : (ℕ → ℕ) → Result Reached Refusal → Type 0
+Within n (Ok to) = to.place < n to.row
+Within n (Err why) = Unit {0}
 
 -- every row has at most that many places, rows counted from `at`
 abbrev pub narrow : (ℕ → ℕ) → ℕ → List Row → Bool
@@ -42,14 +43,14 @@ module _ (n : ℕ → ℕ) (at : ℕ) (r : Row) (a : Access) (h : (r.1 - r.0) / 
       omega arith
 
   reach_narrow : (w d : Bool) → (a.offset - r.0) / 4 < n at
-      → Within n (cond w (cond d (At at ((a.offset - r.0) / 4)) (Refused WrongDirection)) (Refused WrongWidth))
+      → Within n (cond w (cond d (Ok (record { row = at; place = (a.offset - r.0) / 4 })) (Err WrongDirection)) (Err WrongWidth))
   reach_narrow true true l = l
   reach_narrow true false l = tt
   reach_narrow false d l = tt
 
   -- the row that has the offset, or what the rows behind it give
-  here : (b : Bool) (rest : Register) → covers r a.offset ≡ b → Within n rest → Within n (cond b (reach at r a) rest)
-  here true rest e l = reach_narrow (takes_width r a.width) (takes_direction r a.write) (in_row e)
+  here : (b : Bool) (rest : Result Reached Refusal) → covers r a.offset ≡ b → Within n rest → Within n (cond b (reach at r a) rest)
+  here true rest e l = reach_narrow (takes_width r.2 a.width) (takes_direction r.3 a.write) (in_row e)
   here false rest e l = l
 
 pub places_narrow : (n : ℕ → ℕ) (at : ℕ) (rows : List Row) (a : Access) → narrow n at rows ≡ true → Within n (look_up at rows a)
