@@ -7,7 +7,7 @@ use Rattle.benchlog.specs.declared.Entry.{Entry}
 use Rattle.benchlog.specs.declared.Reading.{Reading}
 use Rattle.benchlog.specs.declared.Reading.TheVariants as reading
 use Rattle.benchlog.specs.Entries.{entry_at}
-use Rattle.bus.specs.declared.Answer.TheVariants.{Done}
+use Rattle.std.specs.Prelude.{Ok}
 use Rattle.bus.specs.Answers.{number_of, value_of}
 use Rattle.logged.specs.Entries.{call830_of}
 use Rattle.meb.specs.Ring.{Memory}
@@ -81,7 +81,7 @@ module _ (m : Memory) (e : length m.words ≡ 16384) where
   fresh_sound = (refl, e)
 
   -- the gate lets it pass
-  pub begun_passes : gate_of (begun_at m).v830 m ≡ Done 0
+  pub begun_passes : gate_of (begun_at m).v830 m ≡ Ok 0
   begun_passes = ap (λ (n : Night). gate_of n.v830 m) begun_fresh ∙ sound_gate fresh m fresh_sound
 
 -- ---- the theorem

@@ -8,7 +8,7 @@ use Rattle.benchlog.specs.declared.Reading.TheVariants as reading
 use Rattle.benchlog.specs.Entries.{entry_at}
 use Rattle.benchlog.specs.Faults.{fault_number}
 use Rattle.benchlog.proofs.Places.{picked, ReadingPlace, entry_place}
-use Rattle.bus.specs.declared.Answer.TheVariants.{Done}
+use Rattle.std.specs.Prelude.{Ok}
 use Rattle.meb.specs.Ring.{Memory}
 use Rattle.v830.specs.Calls.{gate_of}
 use Rattle.night.specs.declared.Night.{Night}
@@ -84,7 +84,7 @@ turned_over Nothing ls rest P p h = refl
 turned_over (Faulted number) ls rest P p h = refl
 turned_over (Refused why) ls rest P p h = absurd p
 
-drained : (ts : List Turn) (n : Night) (memory : Memory) (held : List ℕ) → gate_of n.v830 memory ≡ Done 0 → Asking ts
+drained : (ts : List Turn) (n : Night) (memory : Memory) (held : List ℕ) → gate_of n.v830 memory ≡ Ok 0 → Asking ts
     → length (held ++ all_bytes ts) < length ts → (streamed n memory held ts).over ≡ true
 unfolding streamed all_bytes
 drained [] n memory held e a l = absurd (omega arith)
@@ -99,7 +99,7 @@ drained (t ∷ ts) n memory held e a l =
     (omega (arith, length-append left (all_bytes ts), length-append held (t.bytes ++ all_bytes ts), length-append t.bytes (all_bytes ts), length-append held t.bytes)))
 
 -- ---- the theorem: whatever the turns before the input's end were
-pub comes_to_its_end : (us ts : List Turn) (n : Night) (memory : Memory) (held : List ℕ) → gate_of n.v830 memory ≡ Done 0 → Asking ts
+pub comes_to_its_end : (us ts : List Turn) (n : Night) (memory : Memory) (held : List ℕ) → gate_of n.v830 memory ≡ Ok 0 → Asking ts
     → length (held ++ all_bytes (us ++ ts)) < length ts → (streamed n memory held (us ++ ts)).over ≡ true
 unfolding streamed all_bytes
 comes_to_its_end [] ts n memory held e a l = drained ts n memory held e a l

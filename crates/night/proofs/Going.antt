@@ -8,8 +8,9 @@ use Rattle.benchlog.specs.declared.Reading.{Reading}
 use Rattle.benchlog.specs.declared.Reading.TheVariants as reading
 use Rattle.benchlog.specs.Entries.{entry_at}
 use Rattle.benchlog.specs.Faults.{fault_number}
-use Rattle.benchlog.proofs.Places.{picked, entry_place}
-use Rattle.bus.specs.Answers.{is_done}
+use Rattle.benchlog.proofs.Places.{entry_place}
+use Rattle.std.specs.Prelude.{Ok, Err}
+use Rattle.bus.specs.Answers.{Answer}
 use Rattle.meb.specs.Ring.{Memory, lent}
 use Rattle.text.specs.Line.{line, fault_line, fault_word, put_in, after_in}
 use Rattle.text.specs.Text.{put}
@@ -22,7 +23,7 @@ use Rattle.night.specs.declared.Night.{Night}
 use Rattle.night.specs.declared.Part.{Part}
 use Rattle.night.specs.declared.Taken.{Taken}
 use Rattle.night.specs.Lines.{Line, Heading, Shown, Faulty, text_of, text, stepped, onward, taken_of, line_of}
-use Rattle.night.specs.Runs.{Run, ends_here, before, stopped_at, on_reading, run_of, replay_for, part_behind, part_of}
+use Rattle.night.specs.Runs.{Run, ends_here, before, stopped_at, on_reading, run_of, let_pass, run_for, replay_for, part_behind, part_of}
 
 -- a line has at most 63 bytes
 line_fits : (l : Line) → length (text_of l) ≤ 63
@@ -145,9 +146,11 @@ run_used (suc most) last bytes n memory = go (entry_at bytes 0) refl (λ bytes�
 -- nor does what is replayed, refused or not
 pub part_used : (p : Part) (out : List ℕ) (last : Bool) (bytes : List ℕ) (n : Night) (memory : Memory) → p ≡ part_of (replay_for out last bytes n memory) → p.used ≤ length bytes
 part_used p out last bytes n memory e =
-    let used : (replay_for out last bytes n memory).used ≤ length bytes =
-    picked (λ (x : Run). x.used ≤ length bytes) (is_done (gate_of n.v830 memory)) (λ t. run_used (length out / 63) last bytes n memory) (omega arith) in
-    omega (arith, ap (λ (x : Part). x.used) e, used)
+    omega (arith, ap (λ (x : Part). x.used) e, used (gate_of n.v830 memory))
+  where
+    used : (a : Answer) → (let_pass a (run_for out last bytes n memory) n memory).used ≤ length bytes
+    used (Ok value) = run_used (length out / 63) last bytes n memory
+    used (Err why) = omega arith
 
 -- of a run of at most `most` lines, begun with the buffer out₀: the lines of `used` bytes are put up to `at`, and
 -- `left` more may come

@@ -1,6 +1,6 @@
 -- A night whose module is not malformed and has its memory: what the gate asks, and what each entry and each run
 -- leave so. Carried by the V830's laws of the same. Assumes nothing.
-use Rattle.std.proofs.Common.{◌≡◌, ℕ, zero, suc, Bool, true, false, cond, not, ◌&&◌, eqb, List, [], length, drop, sym, refl, ap, ◌∙◌, eq-eqb, ne_eqb, eqb-true}
+use Rattle.std.proofs.Common.{◌≡◌, ℕ, zero, suc, Bool, true, false, cond, not, ◌&&◌, eqb, List, length, drop, sym, refl, ap, ◌∙◌, eq-eqb, eqb-true}
 use mathlib.Core.Bool.{false≢true}
 use Rattle.benchlog.specs.declared.Entry.{Entry}
 use Rattle.benchlog.specs.declared.Fault.TheVariants.{Ends}
@@ -9,19 +9,18 @@ use Rattle.benchlog.specs.declared.Reading.TheVariants as reading
 use Rattle.benchlog.specs.Entries.{entry_at}
 use Rattle.benchlog.specs.Faults.{fault_number}
 use Rattle.benchlog.proofs.Places.{picked}
-use Rattle.bus.specs.declared.Answer.{Answer}
-use Rattle.bus.specs.declared.Answer.TheVariants.{Done, Malformed, WrongMemory}
-use Rattle.bus.specs.Answers.{number_of, is_done}
+use Rattle.std.specs.Prelude.{Ok, Err}
+use Rattle.bus.specs.declared.Refusal.TheVariants.{Malformed, WrongMemory}
+use Rattle.bus.specs.Answers.{Answer, is_done}
 use Rattle.logged.specs.Entries.{call830_of}
 use Rattle.meb.specs.Ring.{Memory, lent}
 use Rattle.v830.specs.State.{formed}
 use Rattle.v830.specs.Calls.{has_length, gate_of}
 use Rattle.v830.proofs.Staying.{formed_stays, sound_stays}
-use Rattle.night.specs.declared.Next.TheVariants.{Refused}
 use Rattle.night.specs.declared.Night.{Night}
 use Rattle.night.specs.declared.Taken.{Taken}
 use Rattle.night.specs.Lines.{onward, stepped, taken_of}
-use Rattle.night.specs.Runs.{Run, ends_here, on_reading, run_of, run_for, replay_for}
+use Rattle.night.specs.Runs.{Run, on_reading, run_of, let_pass, run_for, replay_for}
 
 abbrev pub words : Memory → List ℕ
 words m = m.words
@@ -42,7 +41,7 @@ taken_sound n memory e bytes t ws x r s p q =
     (ap (λ (x : Taken). formed x.night.v830) p ∙ k.0, ap length q ∙ k.1 ∙ sym (ap (λ (x : Taken). x.night.v830.store.capacity.0) p))
 
 -- ---- what the gate asks is this
-both_pass : (a b : Bool) → is_done (cond a (cond b (Done 0) WrongMemory) Malformed) ≡ true → (a ≡ true) × (b ≡ true)
+both_pass : (a b : Bool) → is_done (cond a (cond b (Ok 0) (Err WrongMemory)) (Err Malformed)) ≡ true → (a ≡ true) × (b ≡ true)
 both_pass true true e = (refl, refl)
 both_pass true false e = absurd (false≢true e)
 both_pass false b e = absurd (false≢true e)
@@ -52,7 +51,7 @@ gate_sound n memory e =
     let p = both_pass (formed n.v830) (has_length n.v830 memory) e in
     (p.0, eqb-true _ _ p.1)
 
-pub sound_gate : (n : Night) (memory : Memory) → Sound n memory → gate_of n.v830 memory ≡ Done 0
+pub sound_gate : (n : Night) (memory : Memory) → Sound n memory → gate_of n.v830 memory ≡ Ok 0
 sound_gate n memory s = rw (s.0, eq-eqb (length memory.words) n.v830.store.capacity.0 s.1)
 
 -- ---- a run leaves it so
@@ -72,24 +71,7 @@ run_sound zero last bytes n memory s = s
 run_sound (suc most) last bytes n memory s =
     reading_sound last bytes n memory s (λ n₁ m₁ b. run_of most last b n₁ m₁) (λ n₁ m₁ b h. run_sound most last b n₁ m₁ h) (entry_at bytes 0)
 
--- ---- replayed, a night that the gate lets pass is run, and another one is refused
-module _ (out : List ℕ) (last : Bool) (bytes : List ℕ) (n : Night) (memory : Memory) where
-  asked : (b : Bool) → is_done (gate_of n.v830 memory) ≡ b
-      → replay_for out last bytes n memory ≡ cond b (run_for out last bytes n memory) (ends_here [] (Refused (gate_of n.v830 memory)) n memory)
-  asked b e = ap (λ (x : Bool). cond x (run_for out last bytes n memory) (ends_here [] (Refused (gate_of n.v830 memory)) n memory)) e
-
-  pub passed : gate_of n.v830 memory ≡ Done 0 → replay_for out last bytes n memory ≡ run_for out last bytes n memory
-  passed e = asked true (ap is_done e)
-
-  -- in the words of the code: the answer of the gate, and its number
-  module _ (answer : Answer) (number : ℕ) (a : answer ≡ gate_of n.v830 memory) (k : number ≡ number_of answer) where
-    pub lets_pass : number ≡ 0 → is_done (gate_of n.v830 memory) ≡ true
-    lets_pass z = eq-eqb (number_of (gate_of n.v830 memory)) 0 (sym (ap number_of a) ∙ sym k ∙ z)
-
-    pub passes : number ≡ 0 → run_for out last bytes n memory ≡ replay_for out last bytes n memory
-    passes z = sym (asked true (lets_pass z))
-
-    pub refuses : (number ≡ 0 → ⊥) → ends_here [] (Refused answer) n memory ≡ replay_for out last bytes n memory
-    refuses z =
-        ap (λ (x : Answer). ends_here [] (Refused x) n memory) a
-        ∙ sym (asked false (ne_eqb (number_of (gate_of n.v830 memory)) 0 (λ e. z (k ∙ ap number_of a ∙ e))))
+-- ---- replayed, a night that the gate lets pass is run
+pub passed : (out : List ℕ) (last : Bool) (bytes : List ℕ) (n : Night) (memory : Memory) → gate_of n.v830 memory ≡ Ok 0
+    → replay_for out last bytes n memory ≡ run_for out last bytes n memory
+passed out last bytes n memory e = ap (λ (a : Answer). let_pass a (run_for out last bytes n memory) n memory) e

@@ -1,6 +1,6 @@
 -- The run of a log, a part of it or the whole, and its listing (document 02, M-100; docs/FORMATS.md, `replay`).
 -- Assumes nothing.
-use Rattle.std.specs.Prelude.{ℕ, zero, suc, ◌+◌, ◌/◌, Bool, true, cond, not, ◌&&◌, List, [], ◌∷◌, length, drop, replicate, ◌==◌}
+use Rattle.std.specs.Prelude.{ℕ, zero, suc, ◌+◌, ◌/◌, Bool, true, cond, not, ◌&&◌, List, [], ◌∷◌, length, drop, replicate, ◌==◌, Ok, Err}
 use Rattle.benchlog.specs.declared.Fault.{Fault}
 use Rattle.benchlog.specs.declared.Fault.TheVariants.{Ends}
 use Rattle.benchlog.specs.declared.Reading.{Reading}
@@ -11,7 +11,7 @@ use Rattle.night.specs.declared.Night.{Night}
 use Rattle.night.specs.declared.Next.{Next}
 use Rattle.night.specs.declared.Next.TheVariants.{Lines, Bytes, Nothing, Faulted, Refused}
 use Rattle.night.specs.declared.Part.{Part}
-use Rattle.bus.specs.Answers.{is_done}
+use Rattle.bus.specs.Answers.{Answer}
 use Rattle.meb.specs.Ring.{Memory, lent}
 use Rattle.v830.specs.Calls.{gate_of}
 use Rattle.night.specs.Lines.{Line, Heading, text, Faulty, begun_at, stepped, onward, taken_of, line_of}
@@ -56,11 +56,15 @@ run_of (suc most) last bytes n memory = on_reading last bytes n memory (entry_at
 abbrev pub run_for : List ℕ → Bool → List ℕ → Night → Memory → Run
 run_for out last bytes n memory = run_of (length out / 63) last bytes n memory
 
+-- a run that the gate lets pass, or why nothing is run
+abbrev pub let_pass : Answer → Run → Night → Memory → Run
+let_pass (Ok value) run n memory = run
+let_pass (Err why) run n memory = ends_here [] (Refused why) n memory
+
 -- 12 and 10 are asked once: a night whose module is malformed, or whose memory has another length, gets its number,
 -- and nothing of the log is run
 abbrev pub replay_for : List ℕ → Bool → List ℕ → Night → Memory → Run
-replay_for out last bytes n memory =
-    cond (is_done (gate_of n.v830 memory)) (run_for out last bytes n memory) (ends_here [] (Refused (gate_of n.v830 memory)) n memory)
+replay_for out last bytes n memory = let_pass (gate_of n.v830 memory) (run_for out last bytes n memory) n memory
 
 -- the lines of a log's bytes, to its end: an entry has a byte at least, so that there are no more lines than bytes
 -- and one for a fault

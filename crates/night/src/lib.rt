@@ -15,7 +15,7 @@ mod tally;
 
 use crate::tally::{counted_to, counted_up, put_entry};
 use benchlog::{Entry, Fault, Reading};
-use bus::Answer;
+use bus::Refusal;
 use v830::V830;
 
 // Where a replay stands: the module, the entries taken, and the log's place of the next byte.
@@ -43,7 +43,7 @@ pub enum Next {
     Bytes,
     Nothing,
     Faulted(u32),
-    Refused(Answer),
+    Refused(Refusal),
 }
 
 // A part of a listing: the night after it, the bytes used of the log, those put out, and what is next.
@@ -104,12 +104,10 @@ fn take(night: Night, memory: &mut [u32], entry: Entry, bytes: usize) -> Taken
 pub fn replay(night: Night, memory: &mut [u32], log: &[u8], last: bool, out: &mut [u8]) -> Part
     ensures { (result ≡ part_of (replay_for out.old last log.now night (lent memory.old))) × (memory.new ≡ (replay_for out.old last log.now night (lent memory.old)).memory.words) × (out.new ≡ put out.old 0 (text (replay_for out.old last log.now night (lent memory.old)).lines)) }
 {
-    let v830 = night.v830;
-    let answer = v830::gate(v830, memory);
-    if bus::numbered(answer).number != 0 {
-        return here(night, 0, 0, Next::Refused(answer));
+    match v830::gate(night.v830, memory) {
+        Ok(_) => run(night, memory, log, last, out),
+        Err(why) => here(night, 0, 0, Next::Refused(why)),
     }
-    run(night, memory, log, last, out)
 }
 
 // The same of a night whose module is not malformed and has its memory, which each entry leaves so.

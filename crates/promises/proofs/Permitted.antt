@@ -23,6 +23,7 @@ use Rattle.bus.proofs.interrupter.Interrupter.raised.Reads as bus-raised
 use Rattle.bus.proofs.interrupter.Interrupter.levelled.Reads as bus-levelled
 use Rattle.bus.proofs.interrupter.Interrupter.vectored.Reads as bus-vectored
 use Rattle.bus.proofs.numbered.Reads as bus-numbered
+use Rattle.bus.proofs.Refusal.number.Reads as bus-number
 use Rattle.bus.proofs.table.look_up.Reads as bus-look-up
 use Rattle.benchlog.proofs.read_argument.Reads as benchlog-read-argument
 use Rattle.benchlog.proofs.read_entry.Reads as benchlog-read-entry
@@ -138,6 +139,9 @@ one_bus_vectored κ given first second e d p q = determined p q
 
 pub one_bus_numbered : OneResult bus-numbered.Post
 one_bus_numbered κ given first second e d p q = determined p q
+
+pub one_bus_number : OneResult bus-number.Post
+one_bus_number κ given first second e d p q = determined p q
 
 pub one_bus_look_up : OneResult bus-look-up.Post
 one_bus_look_up κ given first second e d p q = determined p q

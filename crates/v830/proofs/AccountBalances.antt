@@ -19,7 +19,7 @@ use lib.Dec.{eqb, leb, ltb}
 use lib.ListN.{length, get_or-replicate}
 use lib.Seq.{drop_at}
 use Rattle.bus.specs.declared.Access.{Access}
-use Rattle.bus.specs.declared.Answer.TheVariants.{Malformed, WrongMemory, NotRandom, NoWords, TooFewFree}
+use Rattle.bus.specs.declared.Refusal.TheVariants.{Malformed, WrongMemory, NotRandom, NoWords, TooFewFree}
 use Rattle.bus.specs.Answers.{number_of, is_done}
 use Rattle.bus.proofs.Choices.{by_test}
 use Rattle.layout.specs.Layout.{event_words}

@@ -8,7 +8,7 @@ use native.Mathlib.Omega.{arith}
 use borrow.Author.Tests.{eq-eqb, eqb-false, leb-true}
 use lib.Dec.{eqb, leb, ltb}
 use lib.ListN.{length, get_or}
-use Rattle.bus.specs.declared.Answer.TheVariants.{Malformed, WrongMemory, NoChannel, NoMeaning, WordsStored, TooFewFree}
+use Rattle.bus.specs.declared.Refusal.TheVariants.{Malformed, WrongMemory, NoChannel, NoMeaning, WordsStored, TooFewFree}
 use Rattle.bus.proofs.Choices.{both_ways, both_by_test}
 use Rattle.count.specs.Counter.{iterate}
 use Rattle.layout.specs.declared.Stored.{Stored}

@@ -10,9 +10,10 @@ use native.Mathlib.Omega.{arith}
 use borrow.Author.Tests.{ltb-true, leb-true, eqb-true, eqb-false, not-true}
 use lib.Dec.{eqb, leb, ltb}
 use lib.ListN.{length, get_or, get_or-replicate, length-map}
-use Rattle.bus.specs.declared.Answer.{Answer}
-use Rattle.bus.specs.declared.Answer.TheVariants.{Done, Malformed, WrongMemory, NoMeaning, NoChannel, NotRandom, NoWords, TooFewFree, NothingStored, WordsStored}
-use Rattle.bus.specs.Answers.{is_done}
+use Rattle.bus.specs.declared.Refusal.{Refusal}
+use Rattle.std.specs.Prelude.{Ok, Err}
+use Rattle.bus.specs.declared.Refusal.TheVariants.{Malformed, WrongMemory, NoMeaning, NoChannel, NotRandom, NoWords, TooFewFree, NothingStored, WordsStored}
+use Rattle.bus.specs.Answers.{Answer}
 use Rattle.bus.proofs.Choices.{either_way, by_test}
 use Rattle.count.specs.Counter.{next, iterate}
 use Rattle.count.proofs.Mapping.{get_d_map}
@@ -58,7 +59,7 @@ module _ (k : ℕ) (b : Step) where
   module _ (f : Fits s) (h : k < 32) where
     -- a call that has no part in the store, which it leaves as it was, whatever it answers
     quiet : (role : Role) (answer : Answer) (t : V830) → accepted_by s role answer ≡ [] → handed_by role answer ≡ [] → t.store ≡ s.store → t.control ≡ s.control → Fits t
-        → live k t % modulus s ≡ (live k s + admitted_by k s role answer) % modulus s → Goes role (kept b.memory (refused answer t))
+        → live k t % modulus s ≡ (live k s + admitted_by k s role answer) % modulus s → Goes role (kept b.memory (record { answer = answer; state = t }))
     unfolding words_of counts_in AllRead
     quiet role answer t none nothing p q g l e =
         record {
@@ -73,9 +74,9 @@ module _ (k : ℕ) (b : Step) where
     unmoved = rw add-zero
 
     -- a refused call
-    declined : (role : Role) (why : Answer) → is_done why ≡ false → Goes role (kept b.memory (refused why s))
+    declined : (role : Role) (why : Refusal) → Goes role (kept b.memory (refused why s))
     unfolding words_of counts_in AllRead
-    declined role why d e =
+    declined role why e =
         let n = nothing role in
         record {
           words = rw (n.0, n.1) (append-nil (stored_words s.store b.memory));
@@ -85,20 +86,20 @@ module _ (k : ℕ) (b : Step) where
           fits = f;
         }
       where
-        nothing : (role : Role) → (accepted_by s role why ≡ []) × (handed_by role why ≡ []) × (admitted_by k s role why ≡ 0)
-        nothing reads_memory = (refl, rw d, refl)
-        nothing (triggers_by source) = (rw d, refl, refl)
+        nothing : (role : Role) → (accepted_by s role (Err why) ≡ []) × (handed_by role (Err why) ≡ []) × (admitted_by k s role (Err why) ≡ 0)
+        nothing reads_memory = (refl, refl, refl)
+        nothing (triggers_by source) = (refl, refl, refl)
         nothing writes_control = (refl, refl, refl)
         nothing clears_all = (refl, refl, refl)
-        nothing (pulses_on channel n) = (refl, refl, rw d)
-        nothing tests_all = (refl, refl, rw d)
+        nothing (pulses_on channel n) = (refl, refl, refl)
+        nothing tests_all = (refl, refl, refl)
         nothing no_part = (refl, refl, refl)
 
     -- a memory read
     read_fair : formed s ≡ true → (c : Bool) → eqb s.store.stored.0 0 ≡ c
         → Goes reads_memory (kept b.memory (handed_on s (cond c Nothing (Word (get_or b.memory.words s.store.first 0) (shorter s.store)))))
     unfolding words_of counts_in AllRead
-    read_fair g true t = declined reads_memory NothingStored refl
+    read_fair g true t = declined reads_memory NothingStored
     read_fair g false t =
         λ e.
         record {
@@ -147,9 +148,9 @@ module _ (k : ℕ) (b : Step) where
         (by_test P (ltb 0 (event_length (settings s))) _ _
         (λ z. by_test P (leb (event_length (settings s)) (free s.store).0) _ _
         (λ t. accepts by g (ltb-true 0 (event_length (settings s)) z) l (leb-true (event_length (settings s)) (free s.store).0 t))
-        (λ t. declined (triggers_by by) TooFewFree refl))
-        (λ z. declined (triggers_by by) NoWords refl))
-        (declined (triggers_by by) NotRandom refl)
+        (λ t. declined (triggers_by by) TooFewFree))
+        (λ z. declined (triggers_by by) NoWords))
+        (declined (triggers_by by) NotRandom)
 
     -- a call that ends the stretch, if it is done
     ends_fair : (role : Role) (v : ℕ) (t : V830) → ends_with role (done v t).answer ≡ true → Goes role (kept b.memory (done v t))
@@ -158,29 +159,29 @@ module _ (k : ℕ) (b : Step) where
     control_fair : (result : ℕ) → Goes writes_control (kept b.memory (controlled result s))
     control_fair result =
         either_way (λ (o : Outcome). Goes writes_control (kept b.memory o)) (not (eqb (mode result) 3)) _ (refused NoMeaning s)
-        (ends_fair writes_control 0 _ refl) (declined writes_control NoMeaning refl)
+        (ends_fair writes_control 0 _ refl) (declined writes_control NoMeaning)
 
-    looks : (answer : Answer) → Goes no_part (kept b.memory (refused answer s))
+    looks : (answer : Answer) → Goes no_part (kept b.memory (record { answer = answer; state = s }))
     looks answer = quiet no_part answer s refl refl refl refl f unmoved
 
     number_fair : (e : Stored) → Goes no_part (kept b.memory (events_read s e))
-    number_fair (stored.Number events) = looks (Done events.0)
-    number_fair stored.NoWords = looks Malformed
+    number_fair (stored.Number events) = looks (Ok events.0)
+    number_fair stored.NoWords = looks (Err Malformed)
 
     enable_fair : (word : ℕ) → Goes no_part (done_by (WriteEnable word) s b.memory)
     enable_fair word =
         either_way (λ (o : Outcome). Goes no_part (kept b.memory o)) (eqb s.store.stored.0 0) _ (refused WordsStored s)
-        (quiet no_part (Done 0) (enabling (word % 2 ^ 32) s) refl refl refl refl (record { enable = mod-lt word (omega arith); channels = f.channels }) unmoved)
-        (looks WordsStored)
+        (quiet no_part (Ok 0) (enabling (word % 2 ^ 32) s) refl refl refl refl (record { enable = mod-lt word (omega arith); channels = f.channels }) unmoved)
+        (looks (Err WordsStored))
 
     -- pulses: they are admitted to their channel unless VETO is on
     pulses_fair : (x n : ℕ) → Goes (pulses_on x n) (done_by (Pulses x n) s b.memory)
     pulses_fair x n =
         let t = still_pulses n x s in
         either_way (λ (o : Outcome). Goes (pulses_on x n) (kept b.memory o)) (ltb x 32) _ (refused NoChannel s)
-        (quiet (pulses_on x n) (Done 0) (iterate n (pulse x) s) refl refl t.store t.control (record { enable = rw t.enable f.enable; channels = t.channels ∙ f.channels })
+        (quiet (pulses_on x n) (Ok 0) (iterate n (pulse x) s) refl refl t.store t.control (record { enable = rw t.enable f.enable; channels = t.channels ∙ f.channels })
         (pulses_live (settings s).short k x n s (omega (arith, f.channels)) ∙ ap (λ (i : ℕ). (live k s + i) % modulus s) (nested (not s.veto) (eqb x k))))
-        (declined (pulses_on x n) NoChannel refl)
+        (declined (pulses_on x n) NoChannel)
       where
         nested : (c d : Bool) → cond (c && d) n 0 ≡ cond c (cond d n 0) 0
         nested true d = refl
@@ -188,30 +189,30 @@ module _ (k : ℕ) (b : Step) where
 
     test_fair : Goes tests_all (done_by Test s b.memory)
     test_fair =
-        quiet tests_all (Done 0) (tested s) refl refl refl refl (record { enable = f.enable; channels = length-map s.counts (next 32) ∙ f.channels })
+        quiet tests_all (Ok 0) (tested s) refl refl refl refl (record { enable = f.enable; channels = length-map s.counts (next 32) ∙ f.channels })
         (rw (get_d_map (next 32) s.counts k (omega (arith, f.channels))) (next_mod (settings s).short (live k s)))
 
     veto_fair : (on : Bool) → Goes no_part (done_by (Veto on) s b.memory)
-    veto_fair on = quiet no_part (Done 0) (vetoed on s) refl refl refl refl (record { enable = f.enable; channels = f.channels }) unmoved
+    veto_fair on = quiet no_part (Ok 0) (vetoed on s) refl refl refl refl (record { enable = f.enable; channels = f.channels }) unmoved
 
     -- deed by deed, of a module that is not malformed and has its memory
     deed_fair : formed s ≡ true → length b.memory.words ≡ s.store.capacity.0 → (d : Deed) → Goes (role_of d) (done_by d s b.memory)
-    deed_fair g l (Refuse why) = looks why
+    deed_fair g l (Refuse why) = looks (Err why)
     deed_fair g l (Pulses x n) = pulses_fair x n
     deed_fair g l (Veto on) = veto_fair on
     deed_fair g l Test = test_fair
     deed_fair g l (Clear by) = ends_fair clears_all 0 _ refl
     deed_fair g l (Trigger by) = triggers_fair by g l
     deed_fair g l HandOut = read_fair g (eqb s.store.stored.0 0) refl
-    deed_fair g l (ReadCounter j) = looks (Done _)
-    deed_fair g l ReadEnable = looks (Done _)
+    deed_fair g l (ReadCounter j) = looks (Ok _)
+    deed_fair g l ReadEnable = looks (Ok _)
     deed_fair g l (WriteEnable word) = enable_fair word
-    deed_fair g l ReadControl = looks (Done _)
+    deed_fair g l ReadControl = looks (Ok _)
     deed_fair g l (WriteControl word) = control_fair (as_written word)
     deed_fair g l (SetBits word) = control_fair (with_bits s word)
     deed_fair g l (ClearBits word) = control_fair (without_bits s word)
     deed_fair g l Reset = ends_fair clears_all 0 _ refl
-    deed_fair g l ReadTriggers = looks (Done _)
+    deed_fair g l ReadTriggers = looks (Ok _)
     deed_fair g l ReadEvents = number_fair (events_in (settings s) s.store.stored.0)
 
     -- behind the gate: 12 and 10 come first
@@ -224,7 +225,7 @@ module _ (k : ℕ) (b : Step) where
 
     -- a call that is lent the module's memory
     call_fair : (c : Call) → Goes (role_in c) (step_of s b.memory c)
-    call_fair c = gate_fair (Goes (role_in c)) (is_lent_right s b.memory c) b.memory _ (declined (role_in c) Malformed refl) (declined (role_in c) WrongMemory refl) (λ g l. go c g l)
+    call_fair c = gate_fair (Goes (role_in c)) (is_lent_right s b.memory c) b.memory _ (declined (role_in c) Malformed) (declined (role_in c) WrongMemory) (λ g l. go c g l)
       where
         go : (c : Call) → formed s ≡ true → is_lent_right s b.memory c ≡ true → Goes (role_in c) (done_by (deed_of c) s b.memory)
         go (call.Pulses x n) g l = pulses_fair x n
@@ -233,13 +234,13 @@ module _ (k : ℕ) (b : Step) where
         go call.ClearLine g l = ends_fair clears_all 0 _ refl
         go call.TriggerLine g l = deed_fair g (eqb-true _ _ l) (Trigger Line)
         go (call.Access a) g l = deed_fair g (eqb-true _ _ l) (deed_of (call.Access a))
-        go call.ManClr g l = looks NoMeaning
+        go call.ManClr g l = looks (Err NoMeaning)
 
     -- and one that is lent another memory: where it looks at it, 12 or 10 comes first
     another_fair : (lend : Memory) (c : Call) → has_length s lend ≡ false → Goes (role_in c) (record { outcome = (step_of s lend c).outcome; memory = b.memory })
     another_fair lend c d =
         gate_fair (λ r. Goes (role_in c) (record { outcome = r.outcome; memory = b.memory })) (is_lent_right s lend c) lend _
-        (declined (role_in c) Malformed refl) (declined (role_in c) WrongMemory refl) (λ g l. go c l)
+        (declined (role_in c) Malformed) (declined (role_in c) WrongMemory) (λ g l. go c l)
       where
         go : (c : Call) → is_lent_right s lend c ≡ true → Goes (role_in c) (record { outcome = (done_by (deed_of c) s lend).outcome; memory = b.memory })
         go (call.Pulses x n) l = pulses_fair x n
@@ -248,7 +249,7 @@ module _ (k : ℕ) (b : Step) where
         go call.ClearLine l = ends_fair clears_all 0 _ refl
         go call.TriggerLine l = absurd (false≢true (sym d ∙ l))
         go (call.Access a) l = absurd (false≢true (sym d ∙ l))
-        go call.ManClr l = looks NoMeaning
+        go call.ManClr l = looks (Err NoMeaning)
 
 -- a call is a move that balances, whatever the memory that it is lent
 pub made_balances : (k : ℕ) (b : Step) (m : Made) → Fits b.outcome.state → k < 32 → goes_on b m ≡ true → other b m ≡ true → Balanced k (stays k b m) b (move_of b m) (made b m)

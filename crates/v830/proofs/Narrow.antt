@@ -7,9 +7,10 @@ use native.Mathlib.Omega.{arith}
 use borrow.Author.Tests.{eq-eqb}
 use lib.Dec.{eqb}
 use lib.ListN.{length}
+use Rattle.std.specs.Prelude.{Result, Ok, Err}
 use Rattle.bus.specs.declared.Access.{Access}
-use Rattle.bus.specs.declared.table.Register.{Register}
-use Rattle.bus.specs.declared.table.Register.TheVariants.{At, Refused}
+use Rattle.bus.specs.declared.Refusal.{Refusal}
+use Rattle.bus.specs.declared.table.Reached.{Reached}
 use Rattle.bus.specs.Table.{look_up, by_table}
 use Rattle.bus.proofs.Places.{Within, places_narrow}
 use Rattle.meb.specs.Ring.{Memory}
@@ -50,9 +51,9 @@ row_narrow row place a l =
     (either (eqb row 9) _ _ none
     (either (eqb row 10) _ _ none none))))))))))
 
-access_narrow : (a : Access) (r : Register) → Within places r → counter_of (by_table Refuse (λ row place. deed_at row place a) r) < 32
-access_narrow a (At row place) l = row_narrow row place a l
-access_narrow a (Refused why) l = omega arith
+access_narrow : (a : Access) (r : Result Reached Refusal) → Within places r → counter_of (by_table Refuse (λ row place. deed_at row place a) r) < 32
+access_narrow a (Ok to) l = row_narrow to.row to.place a l
+access_narrow a (Err why) l = omega arith
 
 pub counter_narrow : (c : Call) → counter_of (deed_of c) < 32
 counter_narrow (call.Pulses k n) = omega arith

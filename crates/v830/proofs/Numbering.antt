@@ -10,12 +10,12 @@ use borrow.Author.Tests.{eqb-true, eqb-false, lt-ltb, le-ltb}
 use lib.Dec.{eqb, leb, ltb}
 use lib.ListN.{length, get_or}
 use Rattle.bus.specs.declared.Access.{Access}
-use Rattle.bus.specs.declared.Answer.{Answer}
-use Rattle.bus.specs.declared.Answer.TheVariants.{NoMeaning, NoChannel, Malformed, WrongMemory, NotRandom, NoWords, TooFewFree, NothingStored, WordsStored}
-use Rattle.bus.specs.Answers.{number_of, value_of, is_done}
+use Rattle.bus.specs.declared.Refusal.{Refusal}
+use Rattle.bus.specs.declared.Refusal.TheVariants.{NoMeaning, NoChannel, Malformed, WrongMemory, NotRandom, NoWords, TooFewFree, NothingStored, WordsStored}
+use Rattle.bus.specs.Answers.{refusal_number, number_of, value_of, is_done}
 use Rattle.bus.specs.Table.{by_table}
 use Rattle.bus.proofs.Choices.{both_ways, both_by_test}
-use Rattle.bus.proofs.Numbers.{refusal_value, each_number}
+use Rattle.bus.proofs.Numbers.{each_number}
 use Rattle.layout.specs.declared.Stored.TheVariants as stored
 use Rattle.layout.specs.Length.{events, event_length, rounded_up}
 use Rattle.meb.specs.declared.Handed.TheVariants.{Nothing, Word}
@@ -45,15 +45,15 @@ module _ (s : V830) (memory : Memory) where
   abbrev Answered : ℕ → Step → Type 0
   Answered n r = (number_of r.outcome.answer ≡ n) × Same s memory r
 
-  declines : (why : Answer) → Answered (number_of why) (kept memory (refused why s))
-  declines why = (refl, λ e. (refl, refl, refusal_value why e))
+  declines : (why : Refusal) → Answered (refusal_number why) (kept memory (refused why s))
+  declines why = (refl, λ e. (refl, refl, refl))
 
   does : (v : ℕ) (t : V830) (m : Memory) → Answered 0 (kept m (done v t))
   does v t m = (refl, λ e. absurd (false≢true (sym e)))
 
   -- what a test picks of what is done, and the refusal
-  does_if : (b : Bool) (why : Answer) (v : ℕ) (t : V830) → Answered (cond b 0 (number_of why)) (kept memory (cond b (done v t) (refused why s)))
-  does_if b why v t = both_ways (λ (n : ℕ) (o : Outcome). Answered n (kept memory o)) b 0 (number_of why) (done v t) (refused why s) (does v t memory) (declines why)
+  does_if : (b : Bool) (why : Refusal) (v : ℕ) (t : V830) → Answered (cond b 0 (refusal_number why)) (kept memory (cond b (done v t) (refused why s)))
+  does_if b why v t = both_ways (λ (n : ℕ) (o : Outcome). Answered n (kept memory o)) b 0 (refusal_number why) (done v t) (refused why s) (does v t memory) (declines why)
 
   trigger_answered : (by : Source) → Answered (trigger_number s) (triggered by s memory)
   trigger_answered by =
@@ -114,7 +114,7 @@ module _ (s : V830) (memory : Memory) where
   -- an access: the number by the table, where the place in a row does not matter
   access_answered : formed s ≡ true → (a : Access) → Answered (call_number s (call.Access a)) (done_by (deed_of (call.Access a)) s memory)
   access_answered g a =
-      each_number (λ n to. Answered n (done_by (by_table Refuse (λ row place. deed_at row place a) to) s memory)) registers a (λ row. deed_number s (deed_at row 0 a)) (λ why d. declines why)
+      each_number (λ n to. Answered n (done_by (by_table Refuse (λ row place. deed_at row place a) to) s memory)) registers a (λ row. deed_number s (deed_at row 0 a)) (λ why. declines why)
       (λ place. deed_answered g HandOut)
       (λ place. deed_answered g (ReadCounter place))
       (λ place. by_direction a.write (WriteEnable a.«data») ReadEnable)

@@ -4,7 +4,7 @@ use Prim.Native.Nat.{ℕ}
 use mathlib.Core.Path.{◌≡◌, refl, ap, ◌∙◌}
 use mathlib.Core.Bool.{Bool, true, false, not, false≢true}
 use lib.Dec.{eqb}
-use Rattle.bus.specs.declared.Answer.TheVariants.{NoMeaning, Malformed, WrongMemory}
+use Rattle.bus.specs.declared.Refusal.TheVariants.{NoMeaning, Malformed, WrongMemory}
 use Rattle.bus.specs.Answers.{is_done}
 use Rattle.bus.proofs.Choices.{by_test}
 use Rattle.meb.specs.Ring.{Memory}

@@ -8,8 +8,8 @@ use native.Mathlib.Omega.{arith}
 use borrow.Author.Tests.{eqb-true, ltb-true}
 use lib.Dec.{eqb, leb, ltb}
 use lib.ListN.{length, get_or}
-use Rattle.bus.specs.declared.Answer.{Answer}
-use Rattle.bus.specs.declared.Answer.TheVariants.{NothingStored, Malformed, WrongMemory, NoMeaning, NoChannel, NotRandom, NoWords, TooFewFree, WordsStored}
+use Rattle.bus.specs.declared.Refusal.{Refusal}
+use Rattle.bus.specs.declared.Refusal.TheVariants.{NothingStored, Malformed, WrongMemory, NoMeaning, NoChannel, NotRandom, NoWords, TooFewFree, WordsStored}
 use Rattle.bus.proofs.Choices.{either_way, by_test}
 use Rattle.bus.proofs.Places.{left_of, right_of}
 use Rattle.count.specs.Counter.{iterate}
@@ -180,7 +180,7 @@ module _ (s : V830) (memory : Memory) where
   abbrev Leaves : Outcome → Type 0
   Leaves o = Kept (kept memory o)
 
-  unmoved : (why : Answer) → Leaves (refused why s)
+  unmoved : (why : Refusal) → Leaves (refused why s)
   unmoved why = record { capacity = refl; words = refl }
 
   control_keeps : (result : ℕ) → Leaves (controlled result s)

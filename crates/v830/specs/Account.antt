@@ -1,7 +1,6 @@
 -- The words of demand 3: what calls hand out, which triggers they bring and which pulses. Assumes nothing.
 use Rattle.std.specs.Prelude.{ℕ, ◌+◌, ◌%◌, ◌^◌, ◌<◌, ◌≡◌, Bool, true, false, cond, not, ◌&&◌, List, [], ◌∷◌, ◌++◌, eqb, length, get_or, drop}
-use Rattle.bus.specs.declared.Answer.{Answer}
-use Rattle.bus.specs.Answers.{value_of, is_done, admitted}
+use Rattle.bus.specs.Answers.{Answer, value_of, is_done, admitted}
 use Rattle.count.specs.Counter.{bit}
 use Rattle.layout.specs.declared.Event.{Event}
 use Rattle.layout.specs.declared.Settings.{Settings}

@@ -1,7 +1,7 @@
 -- Document 01, "Counting" and "V830 store": what pulses, TEST, CLEAR and writes of Control do to the counters.
 -- Assumes nothing.
 use Rattle.std.specs.Prelude.{ℕ, cond, map, ltb, get_or, set}
-use Rattle.bus.specs.declared.Answer.TheVariants.{NoChannel}
+use Rattle.bus.specs.declared.Refusal.TheVariants.{NoChannel}
 use Rattle.count.specs.Counter.{next, iterate}
 use Rattle.meb.specs.Stores.{emptied}
 use Rattle.v830.specs.declared.Outcome.{Outcome}

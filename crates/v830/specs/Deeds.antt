@@ -2,7 +2,7 @@
 -- nothing.
 use Rattle.std.specs.Prelude.{ℕ, cond, eqb}
 use Rattle.bus.specs.declared.Access.{Access}
-use Rattle.bus.specs.declared.Answer.TheVariants.{NotInTable, NoMeaning}
+use Rattle.bus.specs.declared.Refusal.TheVariants.{NotInTable, NoMeaning}
 use Rattle.bus.specs.Table.{look_up, by_table}
 use Rattle.meb.specs.Ring.{Memory}
 use Rattle.v830.specs.declared.Call.{Call}

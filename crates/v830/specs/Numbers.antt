@@ -1,7 +1,7 @@
 -- T1's words for the V830: what a refused call leaves, and the number that each call gets, line by line of document
 -- 01 in its order 12, 10, 1, 2, 3, 11, 4, 6, 5, 7, 8, 9. Assumes nothing.
 use Rattle.std.specs.Prelude.{ℕ, ◌≡◌, Bool, false, cond, ◌&&◌, not, eqb, leb, ltb, length}
-use Rattle.bus.specs.Answers.{number_of, value_of, is_done}
+use Rattle.bus.specs.Answers.{refusal_number, value_of, is_done}
 use Rattle.bus.specs.Table.{table_number}
 use Rattle.layout.specs.Length.{event_length}
 use Rattle.meb.specs.Ring.{Memory}
@@ -40,7 +40,7 @@ control_number result = unless_number (not (eqb (mode result) 3)) 4 0
 -- what a deed gives: 11: "channel not below .. 32"; 4; 6: "Channel Enable written while words are stored"; 5: "V830
 -- memory read, nothing stored"; 7, 8, 9
 abbrev pub deed_number : V830 → Deed → ℕ
-deed_number s (Refuse why) = number_of why
+deed_number s (Refuse why) = refusal_number why
 deed_number s (Pulses k n) = unless_number (ltb k 32) 11 0
 deed_number s (Veto on) = 0
 deed_number s Test = 0

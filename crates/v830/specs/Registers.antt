@@ -2,8 +2,10 @@
 -- store"). Assumes nothing.
 use Rattle.std.specs.Prelude.{ℕ, ◌-◌, ◌%◌, ◌^◌, not, List, [], ◌∷◌, eqb, get_or}
 use Rattle.std.specs.Int.Bits.{bit_and, bit_or}
-use Rattle.bus.specs.declared.Answer.TheVariants.{NoMeaning, NothingStored, WordsStored, Malformed}
+use Rattle.bus.specs.declared.Refusal.TheVariants.{NoMeaning, NothingStored, WordsStored, Malformed}
 use Rattle.bus.specs.declared.table.Row.{Row}
+use Rattle.bus.specs.declared.table.Widths.TheVariants.{D16, D32}
+use Rattle.bus.specs.declared.table.Directions.TheVariants.{Read, Write, ReadWrite}
 use Rattle.bus.specs.Table.{row}
 use Rattle.layout.specs.declared.Stored.{Stored}
 use Rattle.layout.specs.declared.Stored.TheVariants.{Number, NoWords}
@@ -18,29 +20,23 @@ use Rattle.v830.specs.State.{enabling, vetoed, storing, mode, settings, power_on
 use Rattle.v830.specs.Outcomes.{refused, done, unless}
 use Rattle.v830.specs.Counting.{restarted}
 
--- section 3.1: first and last offset, of which every fourth is meant, widths, directions (1 read, 2 write, 3 both).
--- The last five rows have no offset.
+-- section 3.1: first and last offset, of which every fourth is meant, widths, directions
 abbrev pub registers : List Row
 registers =
-    row 0x0000 0x0FFC 32 1
-    ∷ row 0x1000 0x107C 32 1
-    ∷ row 0x1100 0x1100 32 3
-    ∷ row 0x1108 0x1108 16 3
-    ∷ row 0x110A 0x110A 16 2
-    ∷ row 0x110C 0x110C 16 2
-    ∷ row 0x1120 0x1120 16 2
-    ∷ row 0x1122 0x1122 16 2
-    ∷ row 0x1124 0x1124 16 2
-    ∷ row 0x1128 0x1128 32 1
-    ∷ row 0x1134 0x1134 16 1
-    ∷ row 1 0 0 0
-    ∷ row 1 0 0 0
-    ∷ row 1 0 0 0
-    ∷ row 1 0 0 0
-    ∷ row 1 0 0 0
+    row 0x0000 0x0FFC D32 Read
+    ∷ row 0x1000 0x107C D32 Read
+    ∷ row 0x1100 0x1100 D32 ReadWrite
+    ∷ row 0x1108 0x1108 D16 ReadWrite
+    ∷ row 0x110A 0x110A D16 Write
+    ∷ row 0x110C 0x110C D16 Write
+    ∷ row 0x1120 0x1120 D16 Write
+    ∷ row 0x1122 0x1122 D16 Write
+    ∷ row 0x1124 0x1124 D16 Write
+    ∷ row 0x1128 0x1128 D32 Read
+    ∷ row 0x1134 0x1134 D16 Read
     ∷ []
 
--- the names of its rows, each the row's place; a further register takes one of the last rows
+-- the names of its rows, each the row's place
 abbrev pub meb_window : ℕ
 meb_window = 0
 

@@ -1,6 +1,6 @@
 -- Document 01, "V830 store" and "Event layout": what a trigger does. Assumes nothing.
 use Rattle.std.specs.Prelude.{ℕ, ◌/◌, ◌%◌, ◌^◌, Bool, cond, List, [], ◌∷◌, eqb, leb, ltb}
-use Rattle.bus.specs.declared.Answer.TheVariants.{NotRandom, NoWords, TooFewFree}
+use Rattle.bus.specs.declared.Refusal.TheVariants.{NotRandom, NoWords, TooFewFree}
 use Rattle.count.specs.Counter.{next}
 use Rattle.layout.specs.declared.Event.{Event}
 use Rattle.layout.specs.Layout.{event_words}

@@ -13,7 +13,7 @@ use crate::registers::{
 use crate::state::is_formed;
 use crate::trigger::triggered;
 use crate::{Call, Outcome, V830, done, refused};
-use bus::Answer;
+use bus::{Answer, Refusal};
 
 // Whether the memory that is lent has the length fixed at the start.
 fn has_length(s: V830, memory: &[u32]) -> bool
@@ -54,12 +54,12 @@ pub fn gate(s: V830, memory: &[u32]) -> Answer
     ensures { result ≡ gate_of s (lent memory.now) }
 {
     if !is_formed(s) {
-        return Answer::Malformed;
+        return Err(Refusal::Malformed);
     }
     if has_length(s, memory) {
-        return Answer::Done(0);
+        return Ok(0);
     }
-    Answer::WrongMemory
+    Err(Refusal::WrongMemory)
 }
 
 // Does what a call is to do, to a module that is not malformed.
@@ -94,10 +94,10 @@ pub fn step(s: V830, memory: &mut [u32], call: Call) -> Outcome
     ensures { (result ≡ (step_of s (lent memory.old) call).outcome) × (memory.new ≡ (step_of s (lent memory.old) call).memory.words) }
 {
     if !is_formed(s) {
-        return refused(Answer::Malformed, s);
+        return refused(Refusal::Malformed, s);
     }
     if !is_lent_right(s, memory, call) {
-        return refused(Answer::WrongMemory, s);
+        return refused(Refusal::WrongMemory, s);
     }
     perform(of_call(call), s, memory)
 }

@@ -8,8 +8,7 @@ use crate::{
     CHANNEL_ENABLE, CONTROL, CONTROL_BIT_CLEAR, CONTROL_BIT_SET, COUNTERS, Call, MEB_EVENT_NUMBER,
     MEB_WINDOW, SOFTWARE_CLEAR, SOFTWARE_RESET, SOFTWARE_TRIGGER, TABLE, TRIGGER_COUNTER,
 };
-use bus::table::Register;
-use bus::{Access, Answer};
+use bus::{Access, Refusal};
 
 // Who clears or triggers: the front line, or the register.
 #[derive(Clone, Copy)]
@@ -21,7 +20,7 @@ pub enum Source {
 // What a call is to do.
 #[derive(Clone, Copy)]
 pub enum Deed {
-    Refuse(Answer),
+    Refuse(Refusal),
     Pulses(u32, u32),
     Veto(bool),
     Test,
@@ -56,7 +55,7 @@ fn of_row(row: usize, place: u32, a: Access) -> Deed
         SOFTWARE_TRIGGER => Deed::Trigger(Source::Register),
         TRIGGER_COUNTER => Deed::ReadTriggers,
         MEB_EVENT_NUMBER => Deed::ReadEvents,
-        _ => Deed::Refuse(Answer::NotInTable),
+        _ => Deed::Refuse(Refusal::NotInTable),
     }
 }
 
@@ -84,9 +83,9 @@ fn of_control(a: Access) -> Deed
 fn of_access(a: Access) -> Deed
     ensures { result ≡ deed_of_access a }
 {
-    match bus::table::look_up(TABLE, a) {
-        Register::Refused(why) => Deed::Refuse(why),
-        Register::At(row, place) => of_row(row, place, a),
+    match bus::table::look_up(&TABLE, a) {
+        Err(why) => Deed::Refuse(why),
+        Ok(to) => of_row(to.row, to.place, a),
     }
 }
 
@@ -101,6 +100,6 @@ pub(crate) fn of_call(call: Call) -> Deed
         Call::ClearLine => Deed::Clear(Source::Line),
         Call::TriggerLine => Deed::Trigger(Source::Line),
         Call::Access(a) => of_access(a),
-        Call::ManClr => Deed::Refuse(Answer::NoMeaning),
+        Call::ManClr => Deed::Refuse(Refusal::NoMeaning),
     }
 }

@@ -5,8 +5,8 @@ ghost use Rattle.std.specs.Prelude.{◌≡◌, length};
 ghost use Rattle.meb.specs.Ring.{lent};
 ghost use Rattle.v830.specs.Outcomes.{refused, done, started};
 
-use bus::table::{D16, D32, READ, READ_WRITE, Row, UNUSED, WRITE};
-use bus::{Access, Answer};
+use bus::table::{Directions, Row, Widths};
+use bus::{Access, Answer, Refusal};
 use meb::Store;
 
 mod calls;
@@ -19,26 +19,21 @@ mod trigger;
 pub use calls::{gate, step, step_formed};
 
 // Section 3.1 of source document 002, those of its registers that document 01 lists.
-const TABLE: [Row; 16] = [
-    Row(0x0000, 0x0FFC, D32, READ),
-    Row(0x1000, 0x107C, D32, READ),
-    Row(0x1100, 0x1100, D32, READ_WRITE),
-    Row(0x1108, 0x1108, D16, READ_WRITE),
-    Row(0x110A, 0x110A, D16, WRITE),
-    Row(0x110C, 0x110C, D16, WRITE),
-    Row(0x1120, 0x1120, D16, WRITE),
-    Row(0x1122, 0x1122, D16, WRITE),
-    Row(0x1124, 0x1124, D16, WRITE),
-    Row(0x1128, 0x1128, D32, READ),
-    Row(0x1134, 0x1134, D16, READ),
-    UNUSED,
-    UNUSED,
-    UNUSED,
-    UNUSED,
-    UNUSED,
+const TABLE: [Row; 11] = [
+    Row(0x0000, 0x0FFC, Widths::D32, Directions::Read),
+    Row(0x1000, 0x107C, Widths::D32, Directions::Read),
+    Row(0x1100, 0x1100, Widths::D32, Directions::ReadWrite),
+    Row(0x1108, 0x1108, Widths::D16, Directions::ReadWrite),
+    Row(0x110A, 0x110A, Widths::D16, Directions::Write),
+    Row(0x110C, 0x110C, Widths::D16, Directions::Write),
+    Row(0x1120, 0x1120, Widths::D16, Directions::Write),
+    Row(0x1122, 0x1122, Widths::D16, Directions::Write),
+    Row(0x1124, 0x1124, Widths::D16, Directions::Write),
+    Row(0x1128, 0x1128, Widths::D32, Directions::Read),
+    Row(0x1134, 0x1134, Widths::D16, Directions::Read),
 ];
 
-// The names of its rows, each the row's place; a further register takes one of the unused rows.
+// The names of its rows, each the row's place.
 const MEB_WINDOW: usize = 0;
 
 const COUNTERS: usize = 1;
@@ -103,22 +98,25 @@ pub fn start(geo: u32, memory: &[u32]) -> Outcome
     ensures { result ≡ started geo (lent memory.now) }
 {
     if geo > 31 {
-        return refused(Answer::Malformed, state::power_on(0, 0, 0));
+        return refused(Refusal::Malformed, state::power_on(0, 0, 0));
     }
     if memory.len() == 0 {
-        return refused(Answer::WrongMemory, state::power_on(0, 0, 0));
+        return refused(Refusal::WrongMemory, state::power_on(0, 0, 0));
     }
     if memory.len() > 32768 {
-        return refused(Answer::WrongMemory, state::power_on(0, 0, 0));
+        return refused(Refusal::WrongMemory, state::power_on(0, 0, 0));
     }
     done(0, state::power_on(0, geo, memory.len() as u32))
 }
 
 // A call that is refused: all stays as it was.
-fn refused(why: Answer, state: V830) -> Outcome
+fn refused(why: Refusal, state: V830) -> Outcome
     ensures { result ≡ refused why state }
 {
-    Outcome { answer: why, state }
+    Outcome {
+        answer: Err(why),
+        state,
+    }
 }
 
 // A call that is done, with the value read.
@@ -126,7 +124,7 @@ fn done(value: u32, state: V830) -> Outcome
     ensures { result ≡ done value state }
 {
     Outcome {
-        answer: Answer::Done(value),
+        answer: Ok(value),
         state,
     }
 }

@@ -2,8 +2,8 @@
 use mathlib.Core.Path.{sym, ◌∙◌}
 use Rattle.v830.proofs.deeds.of_access.Goals as goal
 
-pub returns-in-Refused : goal.returns-in-Refused
-returns-in-Refused c = rw (sym c.look_up.ensures ∙ c.in-Refused.is)
+pub returns-in-Err : goal.returns-in-Err
+returns-in-Err c = rw (sym c.look_up.ensures ∙ c.in-Err.is)
 
-pub returns-in-At : goal.returns-in-At
-returns-in-At c = rw (sym c.look_up.ensures ∙ c.in-At.is) c.of_row.ensures
+pub returns-in-Ok : goal.returns-in-Ok
+returns-in-Ok c = rw (sym c.look_up.ensures ∙ c.in-Ok.is) c.of_row.ensures
