@@ -12,12 +12,12 @@ use lib.ListN.{length, replicate}
 use Rattle.count.specs.Counter.{iterate}
 use Rattle.count.specs.Chain.{tick_chain}
 use Rattle.count.proofs.Repeats.{iterate_seen, iterate_same}
-use Rattle.bus.specs.declared.Answer.{Answer}
-use Rattle.bus.specs.declared.Answer.TheVariants.{Done, NoMeaning, NoChannel, Malformed}
+use Rattle.bus.specs.declared.Refusal.{Refusal}
+use Rattle.bus.specs.declared.Refusal.TheVariants.{NoMeaning, NoChannel, Malformed}
 use Rattle.bus.specs.declared.Access.{Access}
 use Rattle.bus.specs.declared.interrupter.Interrupter.{Interrupter}
-use Rattle.bus.specs.declared.table.Register.{Register}
-use Rattle.bus.specs.declared.table.Register.TheVariants.{At, Refused}
+use Rattle.bus.specs.declared.table.Reached.{Reached}
+use Rattle.std.specs.Prelude.{Result, Ok, Err}
 use Rattle.bus.specs.Answers.{is_done, admitted}
 use Rattle.bus.specs.Table.{look_up, by_table}
 use Rattle.bus.proofs.Places.{left_of, right_of}
@@ -46,18 +46,18 @@ pub record Inside {S O : Type 0} (m : Module S O) (J : Type 0) : Type 0 where
   pub counted : List ℕ → O → O
   -- what a pulse is
   pub pulse_is : (x : ℕ) (o : O) → pulse x o ≡ cond (inhibited (m.scales (m.state o)) || ignores (m.state o) x) o (counted (clocks (m.state o) x) o)
-  pub counted_answer : (l : List ℕ) (o : O) → m.answer (counted l o) ≡ Done 0
+  pub counted_answer : (l : List ℕ) (o : O) → m.answer (counted l o) ≡ Ok 0
   pub counted_scales : (l : List ℕ) (o : O) → m.scales (m.state (counted l o)) ≡ counting l (m.scales (m.state o))
   pub counted_ignores : (l : List ℕ) (o : O) (x : ℕ) → ignores (m.state (counted l o)) x ≡ ignores (m.state o) x
   -- the chain of refusals: a refusal, a call that is done; TEST, lines and the button, the rows of the table
-  pub refused : Answer → S → Interrupter → O
+  pub refused : Refusal → S → Interrupter → O
   pub done : S → Interrupter → O
   pub tested : S → Interrupter → O
   pub ordered : Order → S → Interrupter → O
   pub performed : ℕ → ℕ → S → Interrupter → Access → O
-  pub refused_is : (why : Answer) (s : S) (i : Interrupter)
-      → (m.answer (refused why s i) ≡ why) × (m.state (refused why s i) ≡ s) × (m.interrupter (refused why s i) ≡ i)
-  pub done_is : (s : S) (i : Interrupter) → (m.answer (done s i) ≡ Done 0) × (m.state (done s i) ≡ s) × (m.interrupter (done s i) ≡ i)
+  pub refused_is : (why : Refusal) (s : S) (i : Interrupter)
+      → (m.answer (refused why s i) ≡ Err why) × (m.state (refused why s i) ≡ s) × (m.interrupter (refused why s i) ≡ i)
+  pub done_is : (s : S) (i : Interrupter) → (m.answer (done s i) ≡ Ok 0) × (m.state (done s i) ≡ s) × (m.interrupter (done s i) ≡ i)
   -- what the calls are
   pub pulses_are : (s : S) (i : Interrupter) (x n : ℕ)
       → m.step s i (call.Pulses x n) ≡ cond (m.formed s i) (cond (ltb x 16) (iterate n (pulse x) (done s i)) (refused NoChannel s i)) (refused Malformed s i)
@@ -85,13 +85,13 @@ module _ {S O J : Type 0} {m : Module S O} (inside : Inside m J) where
   -- what a row does: Scale Increase, a clear access, or what leaves switches and counts
   pub data Does (s : S) (i : Interrupter) : Bool → Bool → O → Type 0 where
     increases : Does s i true false (inside.tested s i)
-    clearing : (o : O) → m.answer o ≡ Done 0 → Does s i false true o
-    stays : (v : ℕ) (o : O) → m.answer o ≡ Done v → Quiet s o → Does s i false false o
+    clearing : (o : O) → m.answer o ≡ Ok 0 → Does s i false true o
+    stays : (v : ℕ) (o : O) → m.answer o ≡ Ok v → Quiet s o → Does s i false false o
 
   -- that an access does at the row that it reaches
-  abbrev pub Reached : S → Interrupter → Access → Register → Type 0
-  Reached s i a (Refused why) = Unit {0}
-  Reached s i a (At at place) = Does s i (eqb at scale_increase) (eqb at clear_access) (inside.performed at place s i a)
+  abbrev pub Deed : S → Interrupter → Access → Result Reached Refusal → Type 0
+  Deed s i a (Err why) = Unit {0}
+  Deed s i a (Ok to) = Does s i (eqb to.row scale_increase) (eqb to.row clear_access) (inside.performed to.row to.place s i a)
 
   -- pulses that are not admitted, and pulses on an input that does nothing
   pub idle : (x n : ℕ) (o : O) → inhibited (m.scales (m.state o)) || inside.ignores (m.state o) x ≡ true → iterate n (inside.pulse x) o ≡ o
@@ -127,7 +127,7 @@ module _ {S O J : Type 0} {m : Module S O} (inside : Inside m J) where
     module _ (c : Scale w run f Fit) (x : ℕ) where
       -- pulses on input x count
       abbrev Live : O → Type 0
-      Live o = (m.answer o ≡ Done 0) × (inhibited (m.scales (m.state o)) || inside.ignores (m.state o) x ≡ false) × Fit (m.state o)
+      Live o = (m.answer o ≡ Ok 0) × (inhibited (m.scales (m.state o)) || inside.ignores (m.state o) x ≡ false) × Fit (m.state o)
 
       -- the counts of the scale
       abbrev seen : O → List ℕ
@@ -152,7 +152,7 @@ module _ {S O J : Type 0} {m : Module S O} (inside : Inside m J) where
       often g each n o l = iterate_seen (inside.pulse x) g seen Live (λ a h. turn g a h (each a h)) n o l
 
       -- n pulses on any input
-      pub fair_pulses : (n : ℕ) (o : O) → x < 16 → m.answer o ≡ Done 0 → Fit (m.state o) → Fair (cond (eqb x f) n 0) (m.state o) (iterate n (inside.pulse x) o)
+      pub fair_pulses : (n : ℕ) (o : O) → x < 16 → m.answer o ≡ Ok 0 → Fit (m.state o) → Fair (cond (eqb x f) n 0) (m.state o) (iterate n (inside.pulse x) o)
       unfolding iterate
       fair_pulses n o h d g = go (inhibited (m.scales (m.state o))) (inside.ignores (m.state o) x) (eqb x f) refl refl refl
         where
@@ -180,19 +180,19 @@ module _ {S O J : Type 0} {m : Module S O} (inside : Inside m J) where
     pub record Own : Type 0 where
       pub fit_stays : (s t : S) → inside.joins t ≡ inside.joins s → scale_counts m t ≡ scale_counts m s → Fit s → Fit t
       pub line_stays : (s : S) (i : Interrupter) (on : Bool) → Quiet s (inside.ordered (order.VetoLine on) s i)
-      pub row_does : (s : S) (i : Interrupter) (a : Access) → Reached s i a (look_up 0 m.registers a)
+      pub row_does : (s : S) (i : Interrupter) (a : Access) → Deed s i a (look_up 0 m.registers a)
       pub fair_tested : (s : S) (i : Interrupter) → Fit s → Fair 1 s (inside.tested s i)
 
     module _ (own : Own) (c : Scale w run f Fit) (s : S) (i : Interrupter) (g : Fit s) where
       -- a refusal
-      declined : (p : ℕ) (why : Answer) → is_done why ≡ false → Fair p s (inside.refused why s i)
-      declined p why e =
+      declined : (p : ℕ) (why : Refusal) → Fair p s (inside.refused why s i)
+      declined p why =
           let r = inside.refused_is why s i in
-          fair_refused p s (inside.refused why s i) (rw r.1 g) (ap (scale_counts m) r.1) (ap is_done r.0 ∙ e)
+          fair_refused p s (inside.refused why s i) (rw r.1 g) (ap (scale_counts m) r.1) (ap is_done r.0)
 
       -- 12 comes first
       well_formed_lem : (p : ℕ) (o : O) → Fair p s o → Fair p s (cond (m.formed s i) o (inside.refused Malformed s i))
-      well_formed_lem p o h = by_test (Fair p s) (m.formed s i) o (inside.refused Malformed s i) (λ _. h) (λ _. declined p Malformed refl)
+      well_formed_lem p o h = by_test (Fair p s) (m.formed s i) o (inside.refused Malformed s i) (λ _. h) (λ _. declined p Malformed)
 
       stays_fair : (o : O) → Quiet s o → Fair 0 s o
       stays_fair o q = fair_quiet s o (own.fit_stays s (m.state o) q.0 q.1 g) q.1
@@ -202,10 +202,10 @@ module _ {S O J : Type 0} {m : Module S O} (inside : Inside m J) where
       does_fair (clearing o d) e = absurd (false≢true (sym e))
       does_fair (stays v o d q) e = stays_fair o q
 
-      by_row : (to : Register) (a : Access) → Reached s i a to → reaches clear_access to ≡ false
+      by_row : (to : Result Reached Refusal) (a : Access) → Deed s i a to → reaches clear_access to ≡ false
           → Fair (cond (reaches scale_increase to) 1 0) s (by_table (λ why. inside.refused why s i) (λ at place. inside.performed at place s i a) to)
-      by_row (Refused why) a d e = let r = inside.refused_is why s i in stays_fair (inside.refused why s i) (ap inside.joins r.1, ap (scale_counts m) r.1)
-      by_row (At at place) a d e = does_fair d e
+      by_row (Err why) a d e = let r = inside.refused_is why s i in stays_fair (inside.refused why s i) (ap inside.joins r.1, ap (scale_counts m) r.1)
+      by_row (Ok to) a d e = does_fair d e
 
       -- every call that does not clear
       fair_step : (x : Call) → clears m.registers x ≡ false → Fair (pulses_to m.registers f x) s (m.step s i x)
@@ -214,11 +214,11 @@ module _ {S O J : Type 0} {m : Module S O} (inside : Inside m J) where
           rw (inside.pulses_are s i x n)
           (well_formed_lem _ _ (by_test (Fair _ s) (ltb x 16) _ (inside.refused NoChannel s i)
           (λ h. subst (λ (t : S). Fair (cond (eqb x f) n 0) t (iterate n (inside.pulse x) (inside.done s i))) d.1 (fair_pulses c x n (inside.done s i) (ltb-true x 16 h) d.0 (rw d.1 g)))
-          (λ _. declined _ NoChannel refl)))
+          (λ _. declined _ NoChannel)))
       fair_step (call.VetoLine on) e = rw (inside.line_is s i on) (well_formed_lem 0 _ (stays_fair (inside.ordered (order.VetoLine on) s i) (own.line_stays s i on)))
       fair_step call.Test e = rw (inside.test_is s i) (well_formed_lem 1 _ (own.fair_tested s i g))
       fair_step call.ClearLine e = absurd (false≢true (sym e))
-      fair_step call.Trigger e = rw (inside.trigger_is s i) (well_formed_lem 0 _ (declined 0 NoMeaning refl))
+      fair_step call.Trigger e = rw (inside.trigger_is s i) (well_formed_lem 0 _ (declined 0 NoMeaning))
       fair_step (call.Access a) e = rw (inside.access_is s i a) (well_formed_lem _ _ (by_row (look_up 0 m.registers a) a (own.row_does s i a) e))
       fair_step call.ManClr e = absurd (false≢true (sym e))
 

@@ -1,17 +1,19 @@
 -- Well formed or not, a module stays so, for both modules (document 01, "Numbers that come back", 12): no call makes
 -- of a well-formed state and interrupter ones that get 12, and ones that get 12 get it from then on. Assumes nothing.
 use Prim.Native.Nat.{ℕ, zero, suc}
-use mathlib.Core.Path.{◌≡◌, ◌∙◌}
+use mathlib.Core.Path.{◌≡◌, refl, ◌∙◌}
 use mathlib.Core.Bool.{true, false, ◌||◌}
 use mathlib.Core.List.{List, [], ◌∷◌}
 use lib.Dec.{ltb}
 use Rattle.count.specs.Counter.{iterate}
 use Rattle.bus.specs.declared.Access.{Access}
-use Rattle.bus.specs.declared.Answer.{Answer}
-use Rattle.bus.specs.declared.Answer.TheVariants.{NoMeaning, NoChannel}
+use Rattle.bus.specs.declared.Refusal.{Refusal}
+use Rattle.bus.specs.declared.Refusal.TheVariants.{NoMeaning, NoChannel}
 use Rattle.bus.specs.declared.interrupter.Interrupter.{Interrupter}
-use Rattle.bus.specs.declared.table.Register.{Register}
-use Rattle.bus.specs.Answers.{number_of}
+use Rattle.bus.specs.declared.table.Reached.{Reached}
+use native.Mathlib.Omega.{arith}
+use Rattle.std.specs.Prelude.{Result, Ok, Err}
+use Rattle.bus.specs.Answers.{Answer, number_of, is_done}
 use Rattle.bus.specs.Table.{look_up, by_table}
 use Rattle.bus.proofs.Choices.{either_way}
 use Rattle.scaler.specs.declared.Call.{Call}
@@ -24,13 +26,18 @@ use Rattle.scaler.specs.Refusals.{number_for}
 use Rattle.scaler.proofs.Fair.{Inside}
 use Rattle.scaler.proofs.Refusals.{Answering, refused_same, number_is}
 
+-- an answer with the number 12 is a refusal
+twelve_refuses : (a : Answer) → number_of a ≡ 12 → is_done a ≡ false
+twelve_refuses (Ok v) e = absurd (omega (arith, e))
+twelve_refuses (Err why) e = refl
+
 module _ {S O J : Type 0} {m : Module S O} (inside : Inside m J) where
   -- what a call gives is well formed
   abbrev pub Well : O → Type 0
   Well o = m.formed (m.state o) (m.interrupter o) ≡ true
 
   -- what an access gives by what it reaches
-  abbrev pub Reaching : S → Interrupter → Access → Register → Type 0
+  abbrev pub Reaching : S → Interrupter → Access → Result Reached Refusal → Type 0
   Reaching s i a to = Well (by_table (λ why. inside.refused why s i) (λ at place. inside.performed at place s i a) to)
 
   -- what a module must show of its own calls: a pulse that is admitted, TEST, lines and the button, and each row of
@@ -53,7 +60,7 @@ module _ {S O J : Type 0} {m : Module S O} (inside : Inside m J) where
     pulses_well x (suc n) o w = pulses_well x n (inside.pulse x o) (pulse_well x o w)
 
     module _ (s : S) (i : Interrupter) (f : m.formed s i ≡ true) where
-      refused_well : (why : Answer) → Well (inside.refused why s i)
+      refused_well : (why : Refusal) → Well (inside.refused why s i)
       refused_well why = let r = inside.refused_is why s i in rw (r.1, r.2) f
 
       done_well : Well (inside.done s i)
@@ -92,7 +99,7 @@ module _ {S O J : Type 0} {m : Module S O} (inside : Inside m J) where
         → (number_of (m.answer (m.step s i c)) ≡ 12) × (m.state (m.step s i c) ≡ s) × (m.interrupter (m.step s i c) ≡ i)
     malformed_call s i c f =
         let n = number_is inside own s i c ∙ twelve s i c f in
-        let r = refused_same inside own s i c (rw n) in
+        let r = refused_same inside own s i c (twelve_refuses _ n) in
         (n, r.0, r.1)
 
     -- and so does every call after any list of calls

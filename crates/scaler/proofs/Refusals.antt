@@ -9,12 +9,12 @@ use lib.Dec.{eqb, ltb}
 use Rattle.count.specs.Counter.{iterate}
 use Rattle.count.proofs.Repeats.{iterate_seen}
 use Rattle.bus.specs.declared.Access.{Access}
-use Rattle.bus.specs.declared.Answer.{Answer}
-use Rattle.bus.specs.declared.Answer.TheVariants.{Done, NoMeaning, NoChannel, Malformed}
+use Rattle.bus.specs.declared.Refusal.{Refusal}
+use Rattle.bus.specs.declared.Refusal.TheVariants.{NoMeaning, NoChannel, Malformed}
 use Rattle.bus.specs.declared.interrupter.Interrupter.{Interrupter}
-use Rattle.bus.specs.declared.table.Register.{Register}
-use Rattle.bus.specs.declared.table.Register.TheVariants.{At, Refused}
-use Rattle.bus.specs.Answers.{number_of, is_done}
+use Rattle.bus.specs.declared.table.Reached.{Reached}
+use Rattle.std.specs.Prelude.{Result, Ok, Err}
+use Rattle.bus.specs.Answers.{Answer, number_of, refusal_number, is_done}
 use Rattle.bus.specs.Table.{look_up, by_table}
 use Rattle.bus.proofs.Numbers.{refusal_value, number_at, own_number}
 use Rattle.scaler.specs.declared.Call.{Call}
@@ -25,37 +25,37 @@ use Rattle.scaler.specs.Module.{Module}
 use Rattle.scaler.specs.Rows.{scale_increase}
 use Rattle.scaler.specs.Refusals.{Same, test_number, number_for}
 use Rattle.bus.proofs.Choices.{either_way, both_ways}
-use Rattle.scaler.proofs.Fair.{Inside, Does, increases, clearing, stays, Reached}
+use Rattle.scaler.proofs.Fair.{Inside, Does, increases, clearing, stays, Deed}
 
 module _ {S O J : Type 0} {m : Module S O} (inside : Inside m J) where
   -- a call's number, and that where it refuses it changes nothing
   abbrev Gets : S → Interrupter → ℕ → O → Type 0
   Gets s i n o = (number_of (m.answer o) ≡ n) × Same m s i o
 
-  declines : (why : Answer) (s : S) (i : Interrupter) → Gets s i (number_of why) (inside.refused why s i)
+  declines : (why : Refusal) (s : S) (i : Interrupter) → Gets s i (refusal_number why) (inside.refused why s i)
   declines why s i = let r = inside.refused_is why s i in (ap number_of r.0, λ e. (r.1, r.2, refusal_value (m.answer (inside.refused why s i)) e))
 
-  does : (v : ℕ) (s : S) (i : Interrupter) (o : O) → m.answer o ≡ Done v → Gets s i 0 o
+  does : (v : ℕ) (s : S) (i : Interrupter) (o : O) → m.answer o ≡ Ok v → Gets s i 0 o
   does v s i o d = (ap number_of d, λ e. absurd (false≢true (sym e ∙ ap is_done d)))
 
   -- pulses on a channel are done
-  pulses_done : (x n : ℕ) (o : O) → m.answer o ≡ Done 0 → m.answer (iterate n (inside.pulse x) o) ≡ Done 0
+  pulses_done : (x n : ℕ) (o : O) → m.answer o ≡ Ok 0 → m.answer (iterate n (inside.pulse x) o) ≡ Ok 0
   pulses_done x n o d =
-      (iterate_seen (inside.pulse x) (λ (a : Answer). a) m.answer (λ o. m.answer o ≡ Done 0)
+      (iterate_seen (inside.pulse x) (λ (a : Answer). a) m.answer (λ o. m.answer o ≡ Ok 0)
       (λ o e.
-      let p : m.answer (inside.pulse x o) ≡ Done 0 =
+      let p : m.answer (inside.pulse x o) ≡ Ok 0 =
       rw (inside.pulse_is x o)
-      (either_way (λ (o : O). m.answer o ≡ Done 0) (inhibited (m.scales (m.state o)) || inside.ignores (m.state o) x) o (inside.counted (inside.clocks (m.state o) x) o) e (inside.counted_answer (inside.clocks (m.state o) x) o)) in
+      (either_way (λ (o : O). m.answer o ≡ Ok 0) (inhibited (m.scales (m.state o)) || inside.ignores (m.state o) x) o (inside.counted (inside.clocks (m.state o) x) o) e (inside.counted_answer (inside.clocks (m.state o) x) o)) in
       (p, p ∙ sym e))
       n o d).0
 
   -- what a module must show of its own calls: lines and the button are done, what TEST is, and what each row does
   pub record Answering : Type 0 where
-    pub order_done : (o : Order) (s : S) (i : Interrupter) → m.answer (inside.ordered o s i) ≡ Done 0
+    pub order_done : (o : Order) (s : S) (i : Interrupter) → m.answer (inside.ordered o s i) ≡ Ok 0
     pub ticked : S → List ℕ
     pub test_is : (s : S) (i : Interrupter)
         → inside.tested s i ≡ cond (m.unjoined s) (cond (inhibited (m.scales s)) (inside.done s i) (inside.counted (ticked s) (inside.done s i))) (inside.refused NoMeaning s i)
-    pub row_does : (s : S) (i : Interrupter) (a : Access) → Reached inside s i a (look_up 0 m.registers a)
+    pub row_does : (s : S) (i : Interrupter) (a : Access) → Deed inside s i a (look_up 0 m.registers a)
 
   module _ (own : Answering) (s : S) (i : Interrupter) where
     -- 12 comes first
@@ -77,10 +77,10 @@ module _ {S O J : Type 0} {m : Module S O} (inside : Inside m J) where
     row_answered (clearing o d) = does 0 s i o d
     row_answered (stays v o d q) = does v s i o d
 
-    by_row : (to : Register) (a : Access) → Reached inside s i a to
+    by_row : (to : Result Reached Refusal) (a : Access) → Deed inside s i a to
         → Gets s i (number_at (λ at place. cond (eqb at scale_increase) (test_number m s) 0) to) (by_table (λ why. inside.refused why s i) (λ at place. inside.performed at place s i a) to)
-    by_row (Refused why) a d = declines why s i
-    by_row (At at place) a d = row_answered d
+    by_row (Err why) a d = declines why s i
+    by_row (Ok to) a d = row_answered d
 
     answered : (c : Call) → Gets s i (number_for m s i c) (m.step s i c)
     answered (call.Pulses x n) =

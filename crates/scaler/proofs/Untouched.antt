@@ -4,9 +4,8 @@ use mathlib.Core.Path.{◌≡◌, sym, ap, ◌∙◌}
 use seplogic.Ra.Ura.{Ura}
 use base.Logic.{ent}
 use contract.Monad.{fact, fact_mono}
-use Rattle.bus.specs.declared.Answer.{Answer}
 use Rattle.bus.specs.declared.interrupter.Interrupter.{Interrupter}
-use Rattle.bus.specs.Answers.{number_of, value_of, is_done}
+use Rattle.bus.specs.Answers.{Answer, number_of, value_of, is_done}
 use Rattle.scaler.specs.declared.Call.{Call}
 use Rattle.scaler.specs.Module.{Module}
 use Rattle.scaler.specs.Refusals.{LentAnswered}

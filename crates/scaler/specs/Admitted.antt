@@ -1,9 +1,9 @@
 -- What T4 speaks of (document 01, "Counting"): the pulses that calls bring to a channel, those of them that are
 -- admitted, and the calls that clear. Assumes nothing.
-use Rattle.std.specs.Prelude.{ℕ, ◌+◌, Bool, true, false, cond, ◌&&◌, not, List, [], ◌∷◌, eqb}
+use Rattle.std.specs.Prelude.{ℕ, ◌+◌, Bool, true, false, cond, ◌&&◌, not, List, [], ◌∷◌, Result, Ok, Err, eqb}
+use Rattle.bus.specs.declared.Refusal.{Refusal}
 use Rattle.bus.specs.declared.table.Row.{Row}
-use Rattle.bus.specs.declared.table.Register.{Register}
-use Rattle.bus.specs.declared.table.Register.TheVariants.{At, Refused}
+use Rattle.bus.specs.declared.table.Reached.{Reached}
 use Rattle.bus.specs.Answers.{admitted}
 use Rattle.bus.specs.Table.{look_up}
 use Rattle.scaler.specs.declared.Call.{Call}
@@ -13,9 +13,9 @@ use Rattle.scaler.specs.Module.{Module}
 use Rattle.scaler.specs.Rows.{scale_increase, clear_access}
 
 -- whether an access reaches this row
-abbrev pub reaches : ℕ → Register → Bool
-reaches n (At at place) = eqb at n
-reaches n (Refused why) = false
+abbrev pub reaches : ℕ → Result Reached Refusal → Bool
+reaches n (Ok to) = eqb to.row n
+reaches n (Err why) = false
 
 -- the pulses that a call brings to channel f: its own, and one by TEST or Scale Increase ("a TEST pulse that a
 -- channel counts is admitted to it too")

@@ -1,7 +1,7 @@
 -- A module of sixteen scales, seen from outside: what is said of the V260 and of the V560 alike is said of these
 -- words (document 01). Assumes nothing.
 use Rattle.std.specs.Prelude.{Bool, List, [], ◌∷◌}
-use Rattle.bus.specs.declared.Answer.{Answer}
+use Rattle.bus.specs.Answers.{Answer}
 use Rattle.bus.specs.declared.interrupter.Interrupter.{Interrupter}
 use Rattle.bus.specs.declared.table.Row.{Row}
 use Rattle.scaler.specs.declared.Call.{Call}

@@ -1,9 +1,8 @@
 -- Document 01, "Numbers that come back", of the V260 and the V560: which number a call gets, and what a refused call
 -- leaves. Assumes nothing.
 use Rattle.std.specs.Prelude.{ℕ, ◌≡◌, false, cond, eqb, ltb}
-use Rattle.bus.specs.declared.Answer.{Answer}
 use Rattle.bus.specs.declared.interrupter.Interrupter.{Interrupter}
-use Rattle.bus.specs.Answers.{number_of, value_of, is_done}
+use Rattle.bus.specs.Answers.{Answer, number_of, value_of, is_done}
 use Rattle.bus.specs.Table.{table_number}
 use Rattle.scaler.specs.declared.Call.{Call}
 use Rattle.scaler.specs.declared.Call.TheVariants as call

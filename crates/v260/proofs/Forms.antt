@@ -11,7 +11,7 @@ use lib.Dec.{eqb, ltb}
 use lib.ListN.{get_or, set, replicate}
 use Rattle.count.specs.Counter.{next, carries}
 use Rattle.bus.specs.declared.Access.{Access}
-use Rattle.bus.specs.declared.Answer.TheVariants.{NoMeaning}
+use Rattle.bus.specs.declared.Refusal.TheVariants.{NoMeaning}
 use Rattle.bus.specs.declared.interrupter.Interrupter.{Interrupter}
 use Rattle.bus.specs.Answers.{number_of}
 use Rattle.bus.specs.Interrupting.{well_formed}
@@ -93,7 +93,7 @@ module _ (s : V260) (i : Interrupter) (f : is_formed s i ≡ true) where
 
   rows_well : (a : Access) → Reaching inside s i a (look_up 0 registers a)
   rows_well a =
-      each_row (Reaching inside s i a) registers a (λ why d. f)
+      each_row (Reaching inside s i a) registers a (λ why. f)
       (λ place. f)
       (λ place. tested_well)
       (λ place. f)

@@ -13,11 +13,11 @@ use lib.ListN.{length, replicate}
 use Rattle.count.specs.Counter.{bit, iterate}
 use Rattle.count.proofs.Bits.{no_bit}
 use Rattle.bus.specs.declared.Access.{Access}
-use Rattle.bus.specs.declared.Answer.{Answer}
-use Rattle.bus.specs.declared.Answer.TheVariants.{NoMeaning, NoChannel, Malformed}
+use Rattle.bus.specs.declared.Refusal.{Refusal}
+use Rattle.bus.specs.declared.Refusal.TheVariants.{NoMeaning, NoChannel, Malformed}
 use Rattle.bus.specs.declared.interrupter.Interrupter.{Interrupter}
-use Rattle.bus.specs.declared.table.Register.{Register}
-use Rattle.bus.specs.declared.table.Register.TheVariants.{At, Refused}
+use Rattle.bus.specs.declared.table.Reached.{Reached}
+use Rattle.std.specs.Prelude.{Result, Ok, Err}
 use Rattle.bus.specs.Table.{look_up, by_table}
 use Rattle.bus.proofs.Places.{left_of, right_of}
 use Rattle.scaler.specs.declared.Call.{Call}
@@ -27,7 +27,7 @@ use Rattle.scaler.specs.Admitted.{reaches, clears, no_clear, admitted_to}
 use Rattle.scaler.specs.Rows.{clear_access}
 use Rattle.scaler.specs.Module.{called_of}
 use Rattle.scaler.specs.Held.{counts_of, held}
-use Rattle.scaler.proofs.Fair.{Quiet, Does, increases, clearing, stays, Reached, idle, scale_holds}
+use Rattle.scaler.proofs.Fair.{Quiet, Does, increases, clearing, stays, Deed, idle, scale_holds}
 use Rattle.scaler.proofs.Runs.{or_true, length_path}
 use Rattle.v260.specs.declared.Switches.{Switches}
 use Rattle.v260.specs.declared.V260.{V260}
@@ -53,7 +53,7 @@ v260_scale_holds f k calls s i j l z e =
 
 -- ---- all sixteen joined
 module _ (s : V260) (i : Interrupter) (j : AllJoined s) where
-  quiet_unless : (why : Answer) (b : Bool) (o : Outcome) → (b ≡ true → Quiet inside s o) → Quiet inside s (unless b why s i o)
+  quiet_unless : (why : Refusal) (b : Bool) (o : Outcome) → (b ≡ true → Quiet inside s o) → Quiet inside s (unless b why s i o)
   quiet_unless why true o h = h refl
   quiet_unless why false o h = (refl, refl)
 
@@ -76,9 +76,9 @@ module _ (s : V260) (i : Interrupter) (j : AllJoined s) where
   quiet_does (clearing o d) e = absurd (false≢true (sym e))
   quiet_does (stays v o d q) e = q
 
-  quiet_reached : (to : Register) (a : Access) → Reached inside s i a to → reaches clear_access to ≡ false → Quiet inside s (by_table (λ why. refused why s i) (λ at place. performed at place s i a) to)
-  quiet_reached (Refused why) a d e = (refl, refl)
-  quiet_reached (At at place) a d e = quiet_does d e
+  quiet_reached : (to : Result Reached Refusal) (a : Access) → Deed inside s i a to → reaches clear_access to ≡ false → Quiet inside s (by_table (λ why. refused why s i) (λ at place. performed at place s i a) to)
+  quiet_reached (Err why) a d e = (refl, refl)
+  quiet_reached (Ok to) a d e = quiet_does d e
 
   quiet_step : (c : Call) → clears registers c ≡ false → Quiet inside s (step_of s i c)
   quiet_step (call.Pulses x n) e =

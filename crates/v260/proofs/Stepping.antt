@@ -10,13 +10,13 @@ use lib.ListN.{length, length-map}
 use Rattle.count.specs.Counter.{next, bit, iterate}
 use Rattle.count.proofs.Bits.{no_bit}
 use Rattle.bus.specs.declared.Access.{Access}
-use Rattle.bus.specs.declared.Answer.TheVariants.{NoMeaning}
+use Rattle.bus.specs.declared.Refusal.TheVariants.{NoMeaning}
 use Rattle.bus.specs.declared.interrupter.Interrupter.{Interrupter}
 use Rattle.scaler.specs.Orders.{inhibited}
 use Rattle.bus.specs.Table.{look_up}
 use Rattle.bus.proofs.Choices.{either_way, by_test}
 use Rattle.bus.proofs.Numbers.{each_row}
-use Rattle.scaler.proofs.Fair.{Inside, Does, increases, clearing, stays, Reached, Scale, Fair, fair_refused, fair_inhibited, Own}
+use Rattle.scaler.proofs.Fair.{Inside, Does, increases, clearing, stays, Deed, Scale, Fair, fair_refused, fair_inhibited, Own}
 use Rattle.scaler.specs.Held.{path}
 use Rattle.scaler.proofs.Runs.{run_ticks, others_stay, length_clocked, single_ticks}
 use Rattle.v260.specs.declared.Switches.{Switches}
@@ -58,9 +58,9 @@ inside =
     }
 
 -- what each row of its table does
-pub row_does : (s : V260) (i : Interrupter) (a : Access) → Reached inside s i a (look_up 0 registers a)
+pub row_does : (s : V260) (i : Interrupter) (a : Access) → Deed inside s i a (look_up 0 registers a)
 row_does s i a =
-    each_row (Reached inside s i a) registers a (λ why d. tt)
+    each_row (Deed inside s i a) registers a (λ why. tt)
     (λ place. stays _ _ refl (refl, refl))
     (λ place. increases)
     (λ place. stays _ _ refl (refl, refl))

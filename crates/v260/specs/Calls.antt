@@ -1,5 +1,5 @@
 -- Every call of the V260 (document 01, "Registers of the V260 and V560"). Assumes nothing.
-use Rattle.bus.specs.declared.Answer.TheVariants.{NoMeaning}
+use Rattle.bus.specs.declared.Refusal.TheVariants.{NoMeaning}
 use Rattle.bus.specs.declared.interrupter.Interrupter.{Interrupter}
 use Rattle.scaler.specs.declared.Call.{Call}
 use Rattle.scaler.specs.declared.Call.TheVariants as call

@@ -1,7 +1,7 @@
 -- Document 01, "Counting": the V260 (001, 3.1 and 3.2). Assumes nothing.
 use Rattle.std.specs.Prelude.{ℕ, ◌+◌, ◌%◌, Bool, true, false, cond, ◌&&◌, ◌||◌, List, map, eqb, ltb, get_or}
 use Rattle.count.specs.Counter.{next, bit, rises, iterate}
-use Rattle.bus.specs.declared.Answer.TheVariants.{NoMeaning, NoChannel}
+use Rattle.bus.specs.declared.Refusal.TheVariants.{NoMeaning, NoChannel}
 use Rattle.bus.specs.declared.interrupter.Interrupter.{Interrupter}
 use Rattle.bus.specs.Interrupting.{raised}
 use Rattle.scaler.specs.Orders.{inhibited, counting}

@@ -1,7 +1,7 @@
 -- What a call of the V260 gives (document 01, "Numbers that come back"). Assumes nothing.
-use Rattle.std.specs.Prelude.{ℕ, ◌^◌, Bool, true, false, cond, ◌&&◌, List, [], ◌∷◌, ltb, leb}
-use Rattle.bus.specs.declared.Answer.{Answer}
-use Rattle.bus.specs.declared.Answer.TheVariants.{Done, Malformed}
+use Rattle.std.specs.Prelude.{Ok, Err, ℕ, ◌^◌, Bool, true, false, cond, ◌&&◌, List, [], ◌∷◌, ltb, leb}
+use Rattle.bus.specs.declared.Refusal.{Refusal}
+use Rattle.bus.specs.declared.Refusal.TheVariants.{Malformed}
 use Rattle.bus.specs.declared.interrupter.Interrupter.{Interrupter}
 use Rattle.bus.specs.Interrupting.{power_on, well_formed}
 use Rattle.scaler.specs.declared.Scales.{Scales}
@@ -12,12 +12,12 @@ use Rattle.v260.specs.declared.Outcome.{Outcome}
 use Rattle.v260.specs.declared.Lent.{Lent}
 
 -- "Every one returns its number, value 0 .. and the old state, interrupter included"
-abbrev pub refused : Answer → V260 → Interrupter → Outcome
-refused why s i = record { answer = why; state = s; interrupter = i }
+abbrev pub refused : Refusal → V260 → Interrupter → Outcome
+refused why s i = record { answer = Err why; state = s; interrupter = i }
 
 -- done, with the value read
 abbrev pub done : ℕ → V260 → Interrupter → Outcome
-done v s i = record { answer = Done v; state = s; interrupter = i }
+done v s i = record { answer = Ok v; state = s; interrupter = i }
 
 -- "The interrupter is one small record, lent to each access and changed in its place": what the call hands back
 -- beside it
@@ -25,7 +25,7 @@ abbrev pub lent_of : Outcome → Lent
 lent_of o = record { answer = o.answer; state = o.state }
 
 -- a link of the chain of refusals: `why`, unless this holds; else what comes after it
-abbrev pub unless : Bool → Answer → V260 → Interrupter → Outcome → Outcome
+abbrev pub unless : Bool → Refusal → V260 → Interrupter → Outcome → Outcome
 unless holds why s i after = cond holds after (refused why s i)
 
 -- every count is within its 24 bits

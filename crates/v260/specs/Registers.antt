@@ -2,8 +2,10 @@
 -- the V260 and V560"). Assumes nothing.
 use Rattle.std.specs.Prelude.{ℕ, ◌+◌, ◌/◌, ◌%◌, Bool, cond, List, [], ◌∷◌, eqb, get_or, set}
 use Rattle.bus.specs.declared.Access.{Access}
-use Rattle.bus.specs.declared.Answer.TheVariants.{NotInTable}
+use Rattle.bus.specs.declared.Refusal.TheVariants.{NotInTable}
 use Rattle.bus.specs.declared.interrupter.Interrupter.{Interrupter}
+use Rattle.bus.specs.declared.table.Widths.TheVariants.{D16, D16D32}
+use Rattle.bus.specs.declared.table.Directions.TheVariants.{Read, Write, ReadWrite}
 use Rattle.bus.specs.declared.table.Row.{Row}
 use Rattle.bus.specs.Interrupting.{vectored}
 use Rattle.bus.specs.Table.{row, look_up, by_table}
@@ -17,27 +19,24 @@ use Rattle.v260.specs.declared.Outcome.{Outcome}
 use Rattle.v260.specs.Outcomes.{refused, done, formed, scaled}
 use Rattle.v260.specs.Counting.{tested}
 
--- table 4.1, from the top: first and last offset, of which every fourth is meant, widths, directions (1 read, 2
--- write, 3 both). "A counter's entry covers its offset (V260 and V560: 16 or 32 bits) and, there, offset + 2 (16
--- only)". Rows 7, 13, 14 and 15 have no offset.
+-- table 4.1, from the top: first and last offset, of which every fourth is meant, widths, directions.
+-- "A counter's entry covers its offset (V260 and V560: 16 or 32 bits) and, there, offset + 2 (16 only)". Row 7 has no
+-- offset.
 abbrev pub registers : List Row
 registers =
-    row 0x58 0x58 16 1  -- Interrupt jumper status
-    ∷ row 0x56 0x56 16 3  -- Scale increase
-    ∷ row 0x54 0x54 16 3  -- INHIBIT reset
-    ∷ row 0x52 0x52 16 3  -- INHIBIT set
-    ∷ row 0x50 0x50 16 3  -- CLEAR scales
-    ∷ row 0x10 0x4C 48 1  -- Counters 0 to 15
-    ∷ row 0x12 0x4E 16 1  -- their lower halves
-    ∷ row 1 0 0 0  -- Not used
-    ∷ row 0x0C 0x0C 16 3  -- CLEAR VME interrupt
-    ∷ row 0x0A 0x0A 16 3  -- DISABLE VME interrupt
-    ∷ row 0x08 0x08 16 3  -- ENABLE VME interrupt
-    ∷ row 0x06 0x06 16 1  -- Interrupt level
-    ∷ row 0x04 0x04 16 2  -- Interrupt vector
-    ∷ row 1 0 0 0
-    ∷ row 1 0 0 0
-    ∷ row 1 0 0 0
+    row 0x58 0x58 D16 Read  -- Interrupt jumper status
+    ∷ row 0x56 0x56 D16 ReadWrite  -- Scale increase
+    ∷ row 0x54 0x54 D16 ReadWrite  -- INHIBIT reset
+    ∷ row 0x52 0x52 D16 ReadWrite  -- INHIBIT set
+    ∷ row 0x50 0x50 D16 ReadWrite  -- CLEAR scales
+    ∷ row 0x10 0x4C D16D32 Read  -- Counters 0 to 15
+    ∷ row 0x12 0x4E D16 Read  -- their lower halves
+    ∷ row 1 0 D16 Read  -- Not used: it has no offset
+    ∷ row 0x0C 0x0C D16 ReadWrite  -- CLEAR VME interrupt
+    ∷ row 0x0A 0x0A D16 ReadWrite  -- DISABLE VME interrupt
+    ∷ row 0x08 0x08 D16 ReadWrite  -- ENABLE VME interrupt
+    ∷ row 0x06 0x06 D16 Read  -- Interrupt level
+    ∷ row 0x04 0x04 D16 Write  -- Interrupt vector
     ∷ []
 
 -- what a command address, a line or the button does; "such a read returns 0"

@@ -10,15 +10,15 @@ use crate::counting::{pulse_often, test_pulse};
 use crate::registers::{obeyed, perform};
 use crate::{Outcome, TABLE, V260, is_formed, refused};
 use bus::interrupter::Interrupter;
-use bus::table::Register;
-use bus::{Access, Answer};
+use bus::table::Reached;
+use bus::{Access, Refusal};
 use scaler::{Call, Order};
 
 // What an access reaches in the table.
-fn looked_up(a: Access) -> Register
+fn looked_up(a: Access) -> Result<Reached, Refusal>
     ensures { result ≡ look_up 0 registers a }
 {
-    bus::table::look_up(TABLE, a)
+    bus::table::look_up(&TABLE, a)
 }
 
 // An access by VME.
@@ -26,11 +26,11 @@ pub fn access(s: V260, i: Interrupter, a: Access) -> Outcome
     ensures { result ≡ access_of s i a }
 {
     if !is_formed(s, i) {
-        return refused(Answer::Malformed, s, i);
+        return refused(Refusal::Malformed, s, i);
     }
     match looked_up(a) {
-        Register::Refused(why) => refused(why, s, i),
-        Register::At(row, place) => perform(row, place, s, i, a),
+        Err(why) => refused(why, s, i),
+        Ok(to) => perform(to.row, to.place, s, i, a),
     }
 }
 
@@ -39,10 +39,10 @@ pub fn pulses(s: V260, i: Interrupter, channel: u32, n: u32) -> Outcome
     ensures { result ≡ pulses_of s i channel n }
 {
     if !is_formed(s, i) {
-        return refused(Answer::Malformed, s, i);
+        return refused(Refusal::Malformed, s, i);
     }
     if channel > 15 {
-        return refused(Answer::NoChannel, s, i);
+        return refused(Refusal::NoChannel, s, i);
     }
     pulse_often(s, i, channel as usize, n)
 }
@@ -52,7 +52,7 @@ pub fn test(s: V260, i: Interrupter) -> Outcome
     ensures { result ≡ test_of s i }
 {
     if !is_formed(s, i) {
-        return refused(Answer::Malformed, s, i);
+        return refused(Refusal::Malformed, s, i);
     }
     test_pulse(s, i)
 }
@@ -98,7 +98,7 @@ fn ordered(order: Order, s: V260, i: Interrupter) -> Outcome
     ensures { result ≡ order_of order s i }
 {
     if !is_formed(s, i) {
-        return refused(Answer::Malformed, s, i);
+        return refused(Refusal::Malformed, s, i);
     }
     obeyed(order, s, i)
 }
@@ -108,7 +108,7 @@ fn trigger(s: V260, i: Interrupter) -> Outcome
     ensures { result ≡ trigger_of s i }
 {
     if !is_formed(s, i) {
-        return refused(Answer::Malformed, s, i);
+        return refused(Refusal::Malformed, s, i);
     }
-    refused(Answer::NoMeaning, s, i)
+    refused(Refusal::NoMeaning, s, i)
 }

@@ -6,7 +6,7 @@ ghost use Rattle.v260.specs.Outcomes.{done};
 ghost use Rattle.v260.specs.Counting.{is_joined, pulsed, may_request, interrupt_bit, watched_bit, rise_at, rose, counted, pulse, tested};
 
 use crate::{Outcome, Switches, V260, done, refused};
-use bus::Answer;
+use bus::Refusal;
 use bus::interrupter::Interrupter;
 use count::Width;
 
@@ -144,7 +144,7 @@ pub(crate) fn test_pulse(s: V260, i: Interrupter) -> Outcome
 {
     let switches = s.switches;
     if switches.joined != 0 {
-        return refused(Answer::NoMeaning, s, i);
+        return refused(Refusal::NoMeaning, s, i);
     }
     let scales = s.scales;
     if scales.is_inhibited() {

@@ -4,9 +4,9 @@
 ghost use Rattle.std.specs.Prelude.{◌≡◌};
 ghost use Rattle.v260.specs.Outcomes.{fits, is_formed, refused, done, start_of};
 
-use bus::Answer;
 use bus::interrupter::Interrupter;
-use bus::table::{D16, D16_D32, READ, READ_WRITE, Row, UNUSED, WRITE};
+use bus::table::{Directions, Row, Widths};
+use bus::{Answer, Refusal};
 use scaler::Scales;
 
 pub mod by_value;
@@ -14,24 +14,24 @@ mod counting;
 pub mod in_place;
 mod registers;
 
+// The row that the table has no register for: no offset lies in it.
+const UNUSED: Row = Row(1, 0, Widths::D16, Directions::Read);
+
 // Table 4.1 of source document 001, from the top.
-const TABLE: [Row; 16] = [
-    Row(0x58, 0x58, D16, READ),
-    Row(0x56, 0x56, D16, READ_WRITE),
-    Row(0x54, 0x54, D16, READ_WRITE),
-    Row(0x52, 0x52, D16, READ_WRITE),
-    Row(0x50, 0x50, D16, READ_WRITE),
-    Row(0x10, 0x4C, D16_D32, READ),
-    Row(0x12, 0x4E, D16, READ),
+const TABLE: [Row; 13] = [
+    Row(0x58, 0x58, Widths::D16, Directions::Read),
+    Row(0x56, 0x56, Widths::D16, Directions::ReadWrite),
+    Row(0x54, 0x54, Widths::D16, Directions::ReadWrite),
+    Row(0x52, 0x52, Widths::D16, Directions::ReadWrite),
+    Row(0x50, 0x50, Widths::D16, Directions::ReadWrite),
+    Row(0x10, 0x4C, Widths::D16D32, Directions::Read),
+    Row(0x12, 0x4E, Widths::D16, Directions::Read),
     UNUSED,
-    Row(0x0C, 0x0C, D16, READ_WRITE),
-    Row(0x0A, 0x0A, D16, READ_WRITE),
-    Row(0x08, 0x08, D16, READ_WRITE),
-    Row(0x06, 0x06, D16, READ),
-    Row(0x04, 0x04, D16, WRITE),
-    UNUSED,
-    UNUSED,
-    UNUSED,
+    Row(0x0C, 0x0C, Widths::D16, Directions::ReadWrite),
+    Row(0x0A, 0x0A, Widths::D16, Directions::ReadWrite),
+    Row(0x08, 0x08, Widths::D16, Directions::ReadWrite),
+    Row(0x06, 0x06, Widths::D16, Directions::Read),
+    Row(0x04, 0x04, Widths::D16, Directions::Write),
 ];
 
 // The switches: the channels that are joined to the one before, those that may request, and whether the jumpers JP18
@@ -75,7 +75,7 @@ pub fn start(switches: Switches, level: u32) -> Outcome
         switches,
     };
     if level > 7 {
-        return refused(Answer::Malformed, state, Interrupter::power_on(8));
+        return refused(Refusal::Malformed, state, Interrupter::power_on(8));
     }
     done(0, state, Interrupter::power_on(level))
 }
@@ -107,11 +107,11 @@ fn is_formed(s: V260, i: Interrupter) -> bool
 }
 
 // A call that is refused: all stays as it was.
-fn refused(why: Answer, state: V260, interrupter: Interrupter) -> Outcome
+fn refused(why: Refusal, state: V260, interrupter: Interrupter) -> Outcome
     ensures { result ≡ refused why state interrupter }
 {
     Outcome {
-        answer: why,
+        answer: Err(why),
         state,
         interrupter,
     }
@@ -122,7 +122,7 @@ fn done(value: u32, state: V260, interrupter: Interrupter) -> Outcome
     ensures { result ≡ done value state interrupter }
 {
     Outcome {
-        answer: Answer::Done(value),
+        answer: Ok(value),
         state,
         interrupter,
     }

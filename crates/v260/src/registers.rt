@@ -6,7 +6,7 @@ ghost use Rattle.v260.specs.Registers.{obey, counter_word, counter_at, lower_at,
 use crate::counting::test_pulse;
 use crate::{Outcome, V260, done, refused};
 use bus::interrupter::Interrupter;
-use bus::{Access, Answer};
+use bus::{Access, Refusal};
 use scaler::Order;
 use scaler::rows::{
     CLEAR_ACCESS, CLEAR_INTERRUPT, DISABLE_INTERRUPT, ENABLE_INTERRUPT, LEVEL_REGISTER,
@@ -43,7 +43,7 @@ pub(crate) fn perform(row: usize, place: u32, s: V260, i: Interrupter, a: Access
         ENABLE_INTERRUPT => obeyed(Order::Enable, s, i),
         LEVEL_REGISTER => done(i.level, s, i),
         VECTOR_REGISTER => done(0, s, i.vectored((a.data % 256) as u8)),
-        _ => refused(Answer::NotInTable, s, i),
+        _ => refused(Refusal::NotInTable, s, i),
     }
 }
 

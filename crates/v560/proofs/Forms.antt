@@ -8,7 +8,7 @@ use native.Mathlib.Omega.{arith}
 use borrow.Author.Tests.{le-leb}
 use lib.Dec.{eqb}
 use Rattle.bus.specs.declared.Access.{Access}
-use Rattle.bus.specs.declared.Answer.TheVariants.{NoMeaning}
+use Rattle.bus.specs.declared.Refusal.TheVariants.{NoMeaning}
 use Rattle.bus.specs.declared.interrupter.Interrupter.{Interrupter}
 use Rattle.bus.specs.Interrupting.{well_formed}
 use Rattle.bus.specs.Table.{look_up}
@@ -52,7 +52,7 @@ module _ (s : V560) (i : Interrupter) (f : well_formed i ≡ true) where
   rows_well : (a : Access) → Reaching inside s i a (look_up 0 registers a)
   rows_well a =
       let r = register_well a.«data» a.write in
-      each_row (Reaching inside s i a) registers a (λ why d. f)
+      each_row (Reaching inside s i a) registers a (λ why. f)
       (λ place. f)
       (λ place. tested_well)
       (λ place. f)

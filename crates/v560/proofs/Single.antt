@@ -10,7 +10,7 @@ use lib.Dec.{eqb}
 use lib.ListN.{length, length-map}
 use Rattle.count.specs.Counter.{next, bit, iterate}
 use Rattle.count.specs.Chain.{tick_chain}
-use Rattle.bus.specs.declared.Answer.TheVariants.{NoMeaning}
+use Rattle.bus.specs.declared.Refusal.TheVariants.{NoMeaning}
 use Rattle.bus.specs.declared.interrupter.Interrupter.{Interrupter}
 use Rattle.bus.proofs.Places.{left_of, right_of}
 use Rattle.bus.proofs.Choices.{by_test}

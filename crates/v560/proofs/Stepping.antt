@@ -11,13 +11,13 @@ use Rattle.count.specs.Counter.{bit}
 use Rattle.count.specs.Chain.{tick_chain}
 use Rattle.count.proofs.Bits.{no_bit}
 use Rattle.bus.specs.declared.Access.{Access}
-use Rattle.bus.specs.declared.Answer.TheVariants.{NoMeaning}
+use Rattle.bus.specs.declared.Refusal.TheVariants.{NoMeaning}
 use Rattle.bus.specs.declared.interrupter.Interrupter.{Interrupter}
 use Rattle.bus.proofs.Places.{right_of}
 use Rattle.bus.specs.Table.{look_up}
 use Rattle.bus.proofs.Choices.{and_false, either_way}
 use Rattle.bus.proofs.Numbers.{each_row}
-use Rattle.scaler.proofs.Fair.{Inside, Does, increases, clearing, stays, Reached, Scale, Fair, fair_refused, Own}
+use Rattle.scaler.proofs.Fair.{Inside, Does, increases, clearing, stays, Deed, Scale, Fair, fair_refused, Own}
 use Rattle.scaler.specs.Held.{path, counts_of}
 use Rattle.scaler.proofs.Runs.{among, apart, Run, run_ticks, others_stay, length_clocked}
 use Rattle.v560.specs.declared.V560.{V560}
@@ -61,10 +61,10 @@ register_does s i word true = (stays _ _ refl (refl, refl), stays _ _ refl (refl
 register_does s i word false = (stays _ _ refl (refl, refl), stays _ _ refl (refl, refl), stays _ _ refl (refl, refl))
 
 -- what each row of its table does
-pub row_does : (s : V560) (i : Interrupter) (a : Access) → Reached inside s i a (look_up 0 registers a)
+pub row_does : (s : V560) (i : Interrupter) (a : Access) → Deed inside s i a (look_up 0 registers a)
 row_does s i a =
     let r = register_does s i a.«data» a.write in
-    each_row (Reached inside s i a) registers a (λ why d. tt)
+    each_row (Deed inside s i a) registers a (λ why. tt)
     (λ place. stays _ _ refl (refl, refl))
     (λ place. increases)
     (λ place. stays _ _ refl (refl, refl))

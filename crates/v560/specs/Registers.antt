@@ -2,8 +2,10 @@
 -- the V260 and V560"). Assumes nothing.
 use Rattle.std.specs.Prelude.{ℕ, ◌+◌, ◌/◌, ◌%◌, Bool, true, false, cond, not, List, [], ◌∷◌, eqb, get_or, set}
 use Rattle.bus.specs.declared.Access.{Access}
-use Rattle.bus.specs.declared.Answer.TheVariants.{NotInTable}
+use Rattle.bus.specs.declared.Refusal.TheVariants.{NotInTable}
 use Rattle.bus.specs.declared.interrupter.Interrupter.{Interrupter}
+use Rattle.bus.specs.declared.table.Widths.TheVariants.{D16, D16D32}
+use Rattle.bus.specs.declared.table.Directions.TheVariants.{Read, ReadWrite}
 use Rattle.bus.specs.declared.table.Row.{Row}
 use Rattle.bus.specs.Interrupting.{levelled, vectored}
 use Rattle.bus.specs.Table.{row, look_up, by_table}
@@ -17,27 +19,23 @@ use Rattle.v560.specs.declared.Outcome.{Outcome}
 use Rattle.v560.specs.Outcomes.{refused, done, formed, scaled}
 use Rattle.v560.specs.Counting.{tested}
 
--- table 4.1, from the top: first and last offset, of which every fourth is meant, widths, directions (1 read, 2
--- write, 3 both). "A counter's entry covers its offset (V260 and V560: 16 or 32 bits) and, there, offset + 2 (16
--- only)". The last three rows have no offset.
+-- table 4.1, from the top: first and last offset, of which every fourth is meant, widths, directions.
+-- "A counter's entry covers its offset (V260 and V560: 16 or 32 bits) and, there, offset + 2 (16 only)".
 abbrev pub registers : List Row
 registers =
-    row 0x58 0x58 16 1  -- Scale Status register
-    ∷ row 0x56 0x56 16 3  -- Scale Increase
-    ∷ row 0x54 0x54 16 3  -- VME VETO reset
-    ∷ row 0x52 0x52 16 3  -- VME VETO set
-    ∷ row 0x50 0x50 16 3  -- Scale clear
-    ∷ row 0x10 0x4C 48 1  -- Counters 0 to 15
-    ∷ row 0x12 0x4E 16 1  -- their lower halves
-    ∷ row 0x0E 0x0E 16 3  -- Request register
-    ∷ row 0x0C 0x0C 16 3  -- Clear VME Interrupt
-    ∷ row 0x0A 0x0A 16 3  -- Disable VME Interrupt
-    ∷ row 0x08 0x08 16 3  -- Enable VME Interrupt
-    ∷ row 0x06 0x06 16 3  -- Interrupt Level & VETO register
-    ∷ row 0x04 0x04 16 3  -- Interrupt Vector register
-    ∷ row 1 0 0 0
-    ∷ row 1 0 0 0
-    ∷ row 1 0 0 0
+    row 0x58 0x58 D16 Read  -- Scale Status register
+    ∷ row 0x56 0x56 D16 ReadWrite  -- Scale Increase
+    ∷ row 0x54 0x54 D16 ReadWrite  -- VME VETO reset
+    ∷ row 0x52 0x52 D16 ReadWrite  -- VME VETO set
+    ∷ row 0x50 0x50 D16 ReadWrite  -- Scale clear
+    ∷ row 0x10 0x4C D16D32 Read  -- Counters 0 to 15
+    ∷ row 0x12 0x4E D16 Read  -- their lower halves
+    ∷ row 0x0E 0x0E D16 ReadWrite  -- Request register
+    ∷ row 0x0C 0x0C D16 ReadWrite  -- Clear VME Interrupt
+    ∷ row 0x0A 0x0A D16 ReadWrite  -- Disable VME Interrupt
+    ∷ row 0x08 0x08 D16 ReadWrite  -- Enable VME Interrupt
+    ∷ row 0x06 0x06 D16 ReadWrite  -- Interrupt Level & VETO register
+    ∷ row 0x04 0x04 D16 ReadWrite  -- Interrupt Vector register
     ∷ []
 
 -- "Bits 8 to 15 are unused and are read as "one"" (4.4, 4.9, 4.12, 4.13)

@@ -5,7 +5,7 @@ ghost use Rattle.v560.specs.Outcomes.{done};
 ghost use Rattle.v560.specs.Counting.{is_joined, is_high, is_low, watches, rise_at, rose, pulsed, counted, pulse, tested};
 
 use crate::{Outcome, V560, done, refused};
-use bus::Answer;
+use bus::Refusal;
 use bus::interrupter::Interrupter;
 use count::Width;
 use scaler::Scales;
@@ -144,7 +144,7 @@ pub(crate) fn test_pulse(s: V560, i: Interrupter) -> Outcome
     ensures { result ≡ tested s i }
 {
     if s.joined != 0 {
-        return refused(Answer::NoMeaning, s, i);
+        return refused(Refusal::NoMeaning, s, i);
     }
     let scales = s.scales;
     if scales.is_inhibited() {

@@ -4,9 +4,9 @@
 ghost use Rattle.std.specs.Prelude.{◌≡◌};
 ghost use Rattle.v560.specs.Outcomes.{refused, done, started};
 
-use bus::Answer;
 use bus::interrupter::Interrupter;
-use bus::table::{D16, D16_D32, READ, READ_WRITE, Row, UNUSED};
+use bus::table::{Directions, Row, Widths};
+use bus::{Answer, Refusal};
 use scaler::Scales;
 
 pub mod by_value;
@@ -15,23 +15,20 @@ pub mod in_place;
 mod registers;
 
 // Table 4.1 of source document 000, from the top.
-const TABLE: [Row; 16] = [
-    Row(0x58, 0x58, D16, READ),
-    Row(0x56, 0x56, D16, READ_WRITE),
-    Row(0x54, 0x54, D16, READ_WRITE),
-    Row(0x52, 0x52, D16, READ_WRITE),
-    Row(0x50, 0x50, D16, READ_WRITE),
-    Row(0x10, 0x4C, D16_D32, READ),
-    Row(0x12, 0x4E, D16, READ),
-    Row(0x0E, 0x0E, D16, READ_WRITE),
-    Row(0x0C, 0x0C, D16, READ_WRITE),
-    Row(0x0A, 0x0A, D16, READ_WRITE),
-    Row(0x08, 0x08, D16, READ_WRITE),
-    Row(0x06, 0x06, D16, READ_WRITE),
-    Row(0x04, 0x04, D16, READ_WRITE),
-    UNUSED,
-    UNUSED,
-    UNUSED,
+const TABLE: [Row; 13] = [
+    Row(0x58, 0x58, Widths::D16, Directions::Read),
+    Row(0x56, 0x56, Widths::D16, Directions::ReadWrite),
+    Row(0x54, 0x54, Widths::D16, Directions::ReadWrite),
+    Row(0x52, 0x52, Widths::D16, Directions::ReadWrite),
+    Row(0x50, 0x50, Widths::D16, Directions::ReadWrite),
+    Row(0x10, 0x4C, Widths::D16D32, Directions::Read),
+    Row(0x12, 0x4E, Widths::D16, Directions::Read),
+    Row(0x0E, 0x0E, Widths::D16, Directions::ReadWrite),
+    Row(0x0C, 0x0C, Widths::D16, Directions::ReadWrite),
+    Row(0x0A, 0x0A, Widths::D16, Directions::ReadWrite),
+    Row(0x08, 0x08, Widths::D16, Directions::ReadWrite),
+    Row(0x06, 0x06, Widths::D16, Directions::ReadWrite),
+    Row(0x04, 0x04, Widths::D16, Directions::ReadWrite),
 ];
 
 // The scales, the joined sections, the sections that may request, and the veto latch.
@@ -72,11 +69,11 @@ pub fn start(joined: u8) -> Outcome
 }
 
 // A call that is refused: all stays as it was.
-fn refused(why: Answer, state: V560, interrupter: Interrupter) -> Outcome
+fn refused(why: Refusal, state: V560, interrupter: Interrupter) -> Outcome
     ensures { result ≡ refused why state interrupter }
 {
     Outcome {
-        answer: why,
+        answer: Err(why),
         state,
         interrupter,
     }
@@ -87,7 +84,7 @@ fn done(value: u32, state: V560, interrupter: Interrupter) -> Outcome
     ensures { result ≡ done value state interrupter }
 {
     Outcome {
-        answer: Answer::Done(value),
+        answer: Ok(value),
         state,
         interrupter,
     }

@@ -5,7 +5,7 @@ ghost use Rattle.v560.specs.Registers.{obey, level_word, counter_at, lower_at, r
 use crate::counting::test_pulse;
 use crate::{Outcome, V560, done, refused};
 use bus::interrupter::Interrupter;
-use bus::{Access, Answer};
+use bus::{Access, Refusal};
 use scaler::Order;
 use scaler::rows::{
     CLEAR_ACCESS, CLEAR_INTERRUPT, DISABLE_INTERRUPT, ENABLE_INTERRUPT, LEVEL_REGISTER,
@@ -43,7 +43,7 @@ pub(crate) fn perform(row: usize, place: u32, s: V560, i: Interrupter, a: Access
         ENABLE_INTERRUPT => obeyed(Order::Enable, s, i),
         LEVEL_REGISTER => level(s, i, a),
         VECTOR_REGISTER => vector(s, i, a),
-        _ => refused(Answer::NotInTable, s, i),
+        _ => refused(Refusal::NotInTable, s, i),
     }
 }
 

@@ -17,12 +17,12 @@ perform-requires c = let l = c in
     let w = l in
     let a = w.args in
     let h : a.i.level ≤ 7 = leb-true a.i.level 7 (holds w.is_well_formed.ensures (ap not l.if-not-is_well_formed.false)) in
-    (rw (sym l.looked_up.ensures ∙ c.in-At.is) at (places_narrow (λ _. 16) 0 registers a.a refl), omega arith)
+    (rw (sym l.looked_up.ensures ∙ c.in-Ok.is) at (places_narrow (λ _. 16) 0 registers a.a refl), omega arith)
 
-pub returns-in-Refused : goal.returns-in-Refused
-returns-in-Refused c = let l = c in
-    rw (holds l.is_well_formed.ensures (ap not l.if-not-is_well_formed.false), sym l.looked_up.ensures ∙ c.in-Refused.is) c.refused-in-Refused.ensures
+pub returns-in-Err : goal.returns-in-Err
+returns-in-Err c = let l = c in
+    rw (holds l.is_well_formed.ensures (ap not l.if-not-is_well_formed.false), sym l.looked_up.ensures ∙ c.in-Err.is) c.refused-in-Err.ensures
 
-pub returns-in-At : goal.returns-in-At
-returns-in-At c = let l = c in
-    rw (holds l.is_well_formed.ensures (ap not l.if-not-is_well_formed.false), sym l.looked_up.ensures ∙ c.in-At.is) c.perform.ensures
+pub returns-in-Ok : goal.returns-in-Ok
+returns-in-Ok c = let l = c in
+    rw (holds l.is_well_formed.ensures (ap not l.if-not-is_well_formed.false), sym l.looked_up.ensures ∙ c.in-Ok.is) c.perform.ensures
