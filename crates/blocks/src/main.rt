@@ -68,7 +68,7 @@ fn shown(reading: Result<Read, Refusal>) -> (Reply, Event)
 {
     match reading {
         Ok(read) => (layout::numbered(Ok(read.length)), read.event),
-        Err(why) => (layout::numbered(Err(why)), Event::none()),
+        Err(why) => (layout::numbered(Err(why)), Event::default()),
     }
 }
 

@@ -91,11 +91,11 @@ impl Refusal {
     }
 }
 
-impl Event {
-    // The event with all fields 0, which is shown where the reader refuses.
-    pub fn none() -> Event
-        ensures { result ≡ no_event }
-    {
+// All fields 0, which is what is shown of an event where the reader refuses.
+impl Default for Event {
+    ghost is_default = { λ event. event ≡ no_event };
+
+    fn default() -> Event {
         Event {
             geo: 0,
             source: 0,

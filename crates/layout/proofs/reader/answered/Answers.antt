@@ -27,8 +27,8 @@ returns-in_err-header_answered c = let a = c.args in
 pub returns : goal.returns
 returns c = let a = c.args in
     c.body_answered.ensures ∙ elim c.if-settings.branch [
-      | then-settings+in_ok-header_answered w ↦ 
-        sym (rw (sym w.header_answered.ensures ∙ w.in_ok-header_answered.was) at (header_onward a.settings (get_or a.words.now 0 0) (body_answer a.settings a.words.now)))
-        ∙ sym (read_by_header a.settings a.words.now (search rules) (search rules) true w.if-settings.true)
+      | then-settings+in_ok-header_answered w ↦
+          sym (rw (sym w.header_answered.ensures ∙ w.in_ok-header_answered.was) at (header_onward a.settings (get_or a.words.now 0 0) (body_answer a.settings a.words.now)))
+          ∙ sym (read_by_header a.settings a.words.now (search rules) (search rules) true w.if-settings.true)
       | else-settings w ↦ sym (read_by_header a.settings a.words.now (search rules) (search rules) false w.if-settings.false)
     ]
