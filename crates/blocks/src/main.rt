@@ -3,11 +3,12 @@
 // Lists the events of a capture of a V830's memory.
 ghost use Rattle.std.specs.Prelude.{◌≡◌, ◌-◌, ◌*◌, ◌≤◌, length, take};
 ghost use Rattle.blocks.specs.Words.{word_of, words_from, whole_words, words_in, numbers_of};
-ghost use Rattle.layout.specs.Reader.{read_of};
+ghost use Rattle.layout.specs.Numbers.{reply_of};
+ghost use Rattle.layout.specs.Reader.{read_of, answer_given, event_given};
 
 use benchlog::Fault;
 use head::Head;
-use layout::{Answer, Event, Reading, Reply, Settings};
+use layout::{Event, Read, Refusal, Reply, Settings};
 use stdio::{Amiss, Listing};
 
 // The limits of the head's numbers: header, short, enable.
@@ -53,12 +54,22 @@ fn words_of(bytes: &[u8], many: usize) -> [u32; 33]
 }
 
 // The event that bytes begin with.
-fn event_in(settings: Settings, bytes: &[u8]) -> Reading
+fn event_in(settings: Settings, bytes: &[u8]) -> Result<Read, Refusal>
     ensures { result ≡ read_of settings (words_in bytes.now) }
 {
     let many = whole_words(bytes.len());
     let words = words_of(bytes, many);
     layout::read_event(settings, &words[..many])
+}
+
+// What is shown of a reading: its answer's number and value, and its event, all fields 0 where it is refused.
+fn shown(reading: Result<Read, Refusal>) -> (Reply, Event)
+    ensures { result ≡ (reply_of (answer_given reading), event_given reading) }
+{
+    match reading {
+        Ok(read) => (layout::numbered(Ok(read.length)), read.event),
+        Err(why) => (layout::numbered(Err(why)), Event::default()),
+    }
 }
 
 // The numbers of an event's line.
@@ -120,20 +131,12 @@ fn turn(
     }
     let used = l.used;
     let have = l.have;
-    let r = event_in(settings, &buf[used..have]);
-    let answer = r.answer;
-    let event = r.event;
-    let reply = layout::numbered(answer);
-    if reply.number == words_end() && !l.ended {
+    let reading = event_in(settings, &buf[used..have]);
+    if matches!(reading, Err(Refusal::WordsEnd)) && !l.ended {
         return stdio::read_on(rt, buf, stdio::flush(rt, out, l));
     }
+    let (reply, event) = shown(reading);
     listed(out, l, reply, event, from)
-}
-
-// The number of an event whose words end before it does.
-fn words_end() -> u32 {
-    let reply = layout::numbered(Answer::WordsEnd);
-    reply.number
 }
 
 // Lists the events behind a head.

@@ -1,38 +1,66 @@
 -- What an answer without refusal says of the block read, and of the event written. Assumes nothing.
 use mathlib.Core.Path.{◌≡◌, refl, sym, ap, ◌∙◌}
 use mathlib.Core.Bool.{Bool, true, false, cond, ◌&&◌, false≢true}
-use mathlib.Core.List.{List}
+use mathlib.Core.List.{List, [], ◌∷◌}
 use Prim.Native.Nat.{ℕ, ◌/◌, ◌%◌, ◌^◌, ◌≤◌, ◌<◌}
 use native.Mathlib.Omega.{arith}
 use borrow.Author.Tests.{eqb-true, ltb-true, leb-true, eq-eqb, le-leb}
 use lib.Count.{ones_in}
 use lib.Dec.{eqb, ltb, leb}
 use lib.ListN.{length, get_or, drop}
-use Rattle.layout.specs.declared.Answer.{Answer}
-use Rattle.layout.specs.declared.Answer.TheVariants.{NoWords, WordsEnd, NotAHeader, CountAbove32, AnotherCount, Bits25And24, TooFewLent, NotAnEvent}
+use Rattle.std.specs.Prelude.{Result, Ok, Err}
+use Rattle.layout.specs.declared.Refusal.{Refusal}
+use Rattle.layout.specs.declared.Words.{Words}
+use Rattle.layout.specs.declared.Refusal.TheVariants.{NoWords, WordsEnd, NotAHeader, CountAbove32, DatumWithBit26, AnotherChannel, AnotherCount, Bits25And24, TooFewLent, NotAnEvent}
 use Rattle.layout.specs.declared.Event.{Event}
 use Rattle.layout.specs.declared.Settings.{Settings}
 use Rattle.layout.specs.Length.{event_length, header_length, enabled_channels}
-use Rattle.layout.specs.Numbers.{gives_length, no_refusal}
+use Rattle.layout.specs.Numbers.{passed, gives_length, unless, no_refusal}
 use Rattle.layout.specs.Reader.{header_answer, data_answer, body_answer, read_answer}
 use Rattle.layout.specs.Writer.{fields_fit, fields_zero, counts_fit, writable, write_answer}
 use Rattle.layout.proofs.Lengths.{some}
 
 -- of a link of a chain that refuses nothing, the condition holds
-pub if_so : (t : Bool) (x y : Answer) → no_refusal y ≡ false → no_refusal (cond t x y) ≡ true → (t ≡ true) × (no_refusal x ≡ true)
-if_so true x y r d = (refl, d)
-if_so false x y r d = absurd (false≢true (sym r ∙ d))
+pub if_so : (t : Bool) (x : Result Words Refusal) (why : Refusal) → no_refusal (Err why) ≡ false → no_refusal (unless t why x) ≡ true
+    → (t ≡ true) × (no_refusal x ≡ true)
+if_so true x why r d = (refl, d)
+if_so false x why r d = absurd (false≢true (sym r ∙ d))
 
 -- what has words has not 0
 lt_ne : {n : ℕ} → 0 < n → n ≡ 0 → ⊥
 lt_ne h e = omega arith
+
+-- ---- what a step answers with nothing behind it, beside the whole: on to the rest, or the refusal
+abbrev pub Onward : {A : Type 0} → Result (Unit {0}) Refusal → Result A Refusal → Result A Refusal → Type 0
+Onward (Ok nothing) whole rest = whole ≡ rest
+Onward (Err why) whole rest = whole ≡ Err why
+
+link_onward : {A : Type 0} (t : Bool) (why : Refusal) (step : Result (Unit {0}) Refusal) (whole rest : Result A Refusal) → Onward step whole rest
+    → Onward (unless t why step) (unless t why whole) rest
+link_onward true why step whole rest h = h
+link_onward false why step whole rest h = refl
+
+pub header_onward : {A : Type 0} (st : Settings) (h : ℕ) (rest : Result A Refusal) → Onward (header_answer st h passed) (header_answer st h rest) rest
+header_onward st h rest =
+    link_onward (eqb (h / 2 ^ 26 % 2) 1) NotAHeader _ _ rest
+    (link_onward (eqb (h / 2 ^ 24 % 4) 0) Bits25And24 _ _ rest
+    (link_onward (leb (h / 2 ^ 18 % 64) 32) CountAbove32 _ _ rest
+    (link_onward (eqb (h / 2 ^ 18 % 64) (ones_in 32 st.enable)) AnotherCount passed rest rest refl)))
+
+pub data_onward : {A : Type 0} (ks ws : List ℕ) (rest : Result A Refusal) → Onward (data_answer ks ws passed) (data_answer ks ws rest) rest
+unfolding data_answer
+data_onward [] ws rest = refl
+data_onward (k ∷ ks) [] rest = refl
+data_onward (k ∷ ks) (w ∷ ws) rest =
+    link_onward (eqb (w / 2 ^ 26 % 2) 0) DatumWithBit26 _ _ rest
+    (link_onward (eqb (w / 2 ^ 27) k) AnotherChannel _ _ rest (data_onward ks ws rest))
 
 -- ---- the reader
 -- a header that is right: bit 26 one, bits 25 and 24 zero, the number of enabled channels
 abbrev pub GoodHeader : Settings → ℕ → Type 0
 GoodHeader st h = (h / 2 ^ 26 % 2 ≡ 1) × (h / 2 ^ 24 % 4 ≡ 0) × (h / 2 ^ 18 % 64 ≡ ones_in 32 st.enable)
 
-header_done : (st : Settings) (h : ℕ) (rest : Answer) → no_refusal (header_answer st h rest) ≡ true → GoodHeader st h × (no_refusal rest ≡ true)
+header_done : (st : Settings) (h : ℕ) (rest : Result Words Refusal) → no_refusal (header_answer st h rest) ≡ true → GoodHeader st h × (no_refusal rest ≡ true)
 header_done st h rest d =
     let n : ℕ = h / 2 ^ 18 % 64 in
     let a = if_so (eqb (h / 2 ^ 26 % 2) 1) _ NotAHeader refl d in
@@ -75,7 +103,7 @@ reads_done st ws o s l g e = rw (some _ s, some (length ws) (λ z. s (omega arit
     shorter true f = f refl
     shorter false f = refl
 
-    headed : (t : Bool) {a : Answer} → (t ≡ true → GoodHeader st (get_or ws 0 0)) → a ≡ gives_length st → cond t (header_answer st (get_or ws 0 0) a) a ≡ gives_length st
+    headed : (t : Bool) {a : Result Words Refusal} → (t ≡ true → GoodHeader st (get_or ws 0 0)) → a ≡ gives_length st → cond t (header_answer st (get_or ws 0 0) a) a ≡ gives_length st
     headed true f q = let h = f refl in rw (eq-eqb _ _ h.0, eq-eqb _ _ h.1, le-leb (get_or ws 0 0 / 2 ^ 18 % 64) 32 (omega (arith, h.2)), eq-eqb _ _ h.2) q
     headed false f q = q
 

@@ -7,22 +7,23 @@ use native.Mathlib.Numerals.{add-one}
 use borrow.Author.Tests.{eq-eqb, ne_eqb}
 use lib.ListN.{length, get_or, set, drop, drop_of_length-le}
 use lib.Seq.{drop-cons}
-use Rattle.layout.specs.declared.Answer.{Answer}
-use Rattle.layout.specs.declared.Answer.TheVariants.{DatumWithBit26, AnotherChannel}
+use Rattle.std.specs.Prelude.{Result, Err}
+use Rattle.layout.specs.declared.Refusal.{Refusal}
+use Rattle.layout.specs.declared.Refusal.TheVariants.{DatumWithBit26, AnotherChannel}
 use Rattle.layout.specs.Length.{enabled_channels}
 use Rattle.layout.specs.Reader.{data_answer, count_in, counts_read}
 use Rattle.layout.specs.Writer.{count_fits, counts_fit}
 use Rattle.layout.proofs.Turns.{Left, left_turn, left_step, left_over}
 
 -- ---- the answer of the data: 23, 24, or on to the next datum
-module _ (rest : Answer) {whole : Answer} {ws : List ℕ} {at left : ℕ} (e : Left (λ ks us. data_answer ks us rest) whole ws at left) where
+module _ {A : Type 0} (rest : Result A Refusal) {whole : Result A Refusal} {ws : List ℕ} {at left : ℕ} (e : Left (λ ks us. data_answer ks us rest) whole ws at left) where
   module _ (k after : ℕ) (n : enabled_channels left ≡ k ∷ enabled_channels after) where
-    pub data_bit_26 : (get_or ws at 0 / 2 ^ 26 % 2 ≡ 0 → ⊥) → DatumWithBit26 ≡ whole
+    pub data_bit_26 : (get_or ws at 0 / 2 ^ 26 % 2 ≡ 0 → ⊥) → Err DatumWithBit26 ≡ whole
     unfolding data_answer
     data_bit_26 b = rw (ne_eqb _ _ b) at (left_turn e k after n)
 
     module _ (z : get_or ws at 0 / 2 ^ 26 % 2 ≡ 0) where
-      pub data_channel : (get_or ws at 0 / 2 ^ 27 ≡ k → ⊥) → AnotherChannel ≡ whole
+      pub data_channel : (get_or ws at 0 / 2 ^ 27 ≡ k → ⊥) → Err AnotherChannel ≡ whole
       unfolding data_answer
       data_channel b = rw (eq-eqb _ _ z, ne_eqb _ _ b) at (left_turn e k after n)
 

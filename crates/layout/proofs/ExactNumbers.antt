@@ -15,13 +15,15 @@ use lib.ListN.{length, get_or, drop}
 use lib.Pow.{shr-shr}
 use lib.Seq.{drop-cons}
 use Rattle.count.specs.Counter.{bit}
-use Rattle.layout.specs.declared.Answer.{Answer}
-use Rattle.layout.specs.declared.Answer.TheVariants.{NoWords, WordsEnd, NotAHeader, CountAbove32, DatumWithBit26, AnotherChannel, AnotherCount, Bits25And24, TooFewLent, NotAnEvent}
+use Rattle.std.specs.Prelude.{Result}
+use Rattle.layout.specs.declared.Refusal.{Refusal}
+use Rattle.layout.specs.declared.Words.{Words}
+use Rattle.layout.specs.declared.Refusal.TheVariants.{NoWords, WordsEnd, NotAHeader, CountAbove32, DatumWithBit26, AnotherChannel, AnotherCount, Bits25And24, TooFewLent, NotAnEvent}
 use Rattle.layout.specs.declared.Event.{Event}
 use Rattle.layout.specs.declared.Settings.{Settings}
 use Rattle.layout.specs.Length.{event_length, header_length, enabled_channels}
 use Rattle.layout.specs.Lines.{TableLine, given, first_number, First, here, later, NoneHolds, nothing, neither, Exact, holds_at, count_field, channel_field, data_lines, read_lines, some_count, wrong_event, write_lines}
-use Rattle.layout.specs.Numbers.{number_of, gives_length, unless}
+use Rattle.layout.specs.Numbers.{refusal_number, number_of, gives_length, unless}
 use Rattle.layout.specs.Reader.{header_answer, data_answer, body_answer, read_answer}
 use Rattle.layout.specs.Writer.{fields_fit, fields_zero, counts_fit, writable, write_answer}
 use Rattle.layout.proofs.Enabled.{length_enabled}
@@ -65,8 +67,8 @@ exact lines m e =
     }
 
 -- ---- a link of a chain beside its line
-link : (b : Bool) (holds : Bool) (why after : Answer) (ls : List TableLine) → holds ≡ not b → (b ≡ true → number_of after ≡ first_number ls)
-    → number_of (unless b why after) ≡ first_number (given (number_of why) holds ∷ ls)
+link : (b : Bool) (holds : Bool) (why : Refusal) (after : Result Words Refusal) (ls : List TableLine) → holds ≡ not b → (b ≡ true → number_of after ≡ first_number ls)
+    → number_of (unless b why after) ≡ first_number (given (refusal_number why) holds ∷ ls)
 unfolding first_number
 link true holds why after ls e f = rw e (f refl)
 link false holds why after ls e f = rw e
@@ -129,7 +131,7 @@ there {i} {n} h t = rw (lt-ltb i n h)
 
 -- ---- the reader
 -- the data in the short format
-data_lines_lem : (ws : List ℕ) (place : ℕ) (ks : List ℕ) (after : Answer) → number_of after ≡ 0 → place + length ks ≤ length ws
+data_lines_lem : (ws : List ℕ) (place : ℕ) (ks : List ℕ) (after : Result Words Refusal) → number_of after ≡ 0 → place + length ks ≤ length ws
     → number_of (data_answer ks (drop place ws) after) ≡ first_number (data_lines true ws place ks)
 unfolding data_answer data_lines
 data_lines_lem ws place [] after z l = z ∙ sym no_lines

@@ -9,7 +9,9 @@ use borrow.Author.Tests.{le-leb}
 use lib.Count.{ones_in}
 use lib.ListN.{length, set, drop, replicate, length-append, length-drop}
 use lib.Seq.{drop-append-le}
-use Rattle.layout.specs.declared.Answer.{Answer}
+use Rattle.std.specs.Prelude.{Result}
+use Rattle.layout.specs.declared.Refusal.{Refusal}
+use Rattle.layout.specs.declared.Words.{Words}
 use Rattle.layout.specs.declared.Settings.{Settings}
 use Rattle.layout.specs.Length.{event_length, header_length, enabled_channels}
 use Rattle.layout.specs.Numbers.{gives_length}
@@ -18,7 +20,7 @@ use Rattle.layout.proofs.Enabled.{length_enabled}
 use Rattle.layout.proofs.Halves.{settings}
 use Rattle.layout.proofs.Lengths.{none, some}
 
-data_no_further : (ks ws rest : List ℕ) (a : Answer) → length ks ≤ length ws → data_answer ks (ws ++ rest) a ≡ data_answer ks ws a
+data_no_further : (ks ws rest : List ℕ) (a : Result Words Refusal) → length ks ≤ length ws → data_answer ks (ws ++ rest) a ≡ data_answer ks ws a
 unfolding data_answer
 data_no_further [] ws rest a l = refl
 data_no_further (k ∷ ks) [] rest a l = absurd (omega arith)

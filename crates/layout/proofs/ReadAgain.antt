@@ -12,14 +12,16 @@ use borrow.Author.Tests.{eq-eqb, eqb-true, ltb-true}
 use lib.Count.{ones_in}
 use lib.Dec.{ltb}
 use lib.ListN.{length, get_or, drop, replicate, length-append, length-map}
-use Rattle.layout.specs.declared.Answer.{Answer}
+use Rattle.std.specs.Prelude.{Result}
+use Rattle.layout.specs.declared.Refusal.{Refusal}
+use Rattle.layout.specs.declared.Words.{Words}
 use Rattle.layout.proofs.Enabled.{ones_in_le}
 use Rattle.layout.specs.declared.Event.{Event}
 use Rattle.layout.specs.declared.Settings.{Settings}
 use Rattle.layout.specs.Layout.{header_of, datum_of, data_of, event_words}
 use Rattle.layout.specs.Length.{channel_if, event_length, header_length, enabled_channels}
 use Rattle.layout.specs.Numbers.{gives_length, no_refusal}
-use Rattle.layout.specs.Reader.{data_answer, read_answer, count_in, counts_read, event_in, read_of}
+use Rattle.layout.specs.Reader.{data_answer, read_answer, count_in, counts_read, event_in, with_event, read_of}
 use Rattle.layout.specs.Writer.{count_fits, counts_fit, writable, write_answer, write_words}
 use Rattle.layout.proofs.Answers.{GoodHeader, both, fields_fit_lem, fields_zero_lem, writable_parts, write_done, reads_done}
 use Rattle.layout.proofs.Halves.{settings, data_from, count_first, counts_from, data_from_lem, counts_from_lem}
@@ -27,7 +29,7 @@ use Rattle.layout.proofs.Written.{words_length, write_answers, write_leaves}
 
 -- ---- the data
 -- a datum that was written is of its channel, and has its count
-data_answered : (cs ks rest : List ℕ) (d : Answer) → data_answer ks (data_of true cs ks ++ rest) d ≡ d
+data_answered : (cs ks rest : List ℕ) (d : Result Words Refusal) → data_answer ks (data_of true cs ks ++ rest) d ≡ d
 unfolding data_answer
 data_answered cs [] rest d = refl
 data_answered cs (k ∷ ks) rest d =
@@ -87,7 +89,7 @@ event_again false short x ev rest h l w =
     let z = fields_zero_lem ev p.1 in
     rw (z.0, z.1, z.2, body_again short x ev.counts rest l p.2)
 
-short_again : (short : Bool) (x : ℕ) (cs rest : List ℕ) (d : Answer) → short ≡ true → data_answer (enabled_channels x) (data_of short cs (enabled_channels x) ++ rest) d ≡ d
+short_again : (short : Bool) (x : ℕ) (cs rest : List ℕ) (d : Result Words Refusal) → short ≡ true → data_answer (enabled_channels x) (data_of short cs (enabled_channels x) ++ rest) d ≡ d
 short_again true x cs rest d e = data_answered cs (enabled_channels x) rest d
 short_again false x cs rest d e = absurd (false≢true e)
 
@@ -109,7 +111,7 @@ answer_again header short x ev rest h s w =
 
 -- ---- the theorem
 pub written_reads_back : (st : Settings) (ev : Event) (lent : List ℕ) → st.enable < 2 ^ 32 → length ev.counts ≡ 32 → no_refusal (write_answer st ev lent) ≡ true
-    → read_of st (write_words st ev lent) ≡ record { answer = write_answer st ev lent; event = ev }
+    → read_of st (write_words st ev lent) ≡ with_event ev (write_answer st ev lent)
 unfolding read_of
 written_reads_back st ev lent h l d =
     let p = write_done st ev lent d in

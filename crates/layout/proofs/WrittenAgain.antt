@@ -15,22 +15,25 @@ use borrow.Author.Tests.{eqb-true, ne_eqb, le-leb, lt-ltb}
 use lib.Count.{ones_in}
 use lib.Dec.{eqb}
 use lib.ListN.{length, get_or, take, drop, replicate}
-use Rattle.layout.specs.declared.Answer.{Answer}
-use Rattle.layout.specs.declared.Answer.TheVariants.{DatumWithBit26, AnotherChannel}
+use Rattle.std.specs.Prelude.{Result}
+use Rattle.layout.specs.declared.Refusal.{Refusal}
+use Rattle.layout.specs.declared.Words.{Words}
+use Rattle.layout.specs.declared.Refusal.TheVariants.{DatumWithBit26, AnotherChannel}
 use Rattle.layout.specs.declared.Settings.{Settings}
 use Rattle.layout.specs.Layout.{datum_of, data_of, event_words}
 use Rattle.layout.specs.Length.{channel_if, event_length, header_length, enabled_from, enabled_channels}
 use Rattle.layout.specs.Numbers.{gives_length, no_refusal}
-use Rattle.layout.specs.Reader.{datum_answer, data_answer, read_answer, count_in, counts_read, event_in, read_of}
+use Rattle.layout.specs.Reader.{datum_answer, data_answer, read_answer, count_in, counts_read, event_in, read_of, event_given}
 use Rattle.layout.specs.Writer.{count_fits, counts_fit, writable, write_answer, write_words}
 use Rattle.layout.proofs.Answers.{GoodHeader, if_so, read_done, body_done, reads_done}
 use Rattle.layout.proofs.Enabled.{length_enabled, ones_in_le}
 use Rattle.layout.proofs.Halves.{settings, data_from, count_first, counts_from, length_counts, data_from_lem, counts_from_lem}
+use Rattle.layout.proofs.Refusals.{given_event}
 use Rattle.layout.proofs.Written.{write_answers, write_leaves}
 
 -- ---- the data
 -- a datum that is not refused is the one of its channel and its count
-datum_again : (short : Bool) (k w : ℕ) (rest d : Answer) → no_refusal (cond short (datum_answer k w rest) d) ≡ true
+datum_again : (short : Bool) (k w : ℕ) (rest d : Result Words Refusal) → no_refusal (cond short (datum_answer k w rest) d) ≡ true
     → (datum_of short k (count_in short w) ≡ w) × (no_refusal (cond short rest d) ≡ true)
 datum_again true k w rest d g =
     let a = if_so (eqb (w / 2 ^ 26 % 2) 0) _ DatumWithBit26 refl g in
@@ -40,7 +43,7 @@ datum_again true k w rest d g =
     (omega arith, b.1)
 datum_again false k w rest d g = (refl, g)
 
-data_again : (short : Bool) (d k m : ℕ) (ws : List ℕ) (a : Answer) → length (enabled_from d k m) ≤ length ws
+data_again : (short : Bool) (d k m : ℕ) (ws : List ℕ) (a : Result Words Refusal) → length (enabled_from d k m) ≤ length ws
     → no_refusal (cond short (data_answer (enabled_from d k m) ws a) a) ≡ true → data_from short k m (counts_from d short m ws) ≡ take (length (enabled_from d k m)) ws
 unfolding enabled_from counts_from data_from data_answer
 data_again short zero k m ws a l g = refl
@@ -89,7 +92,7 @@ module _ (short : Bool) (x : ℕ) (ws : List ℕ) (l : length (enabled_channels 
   body_fits : counts_fit short x (counts_read short (enabled_channels x) ws (replicate 32 0)) ≡ true
   body_fits = ap (counts_fit short x) counts_are ∙ counts_fit_lem short 32 x ws
 
-  body_again : (a : Answer) → no_refusal (cond short (data_answer (enabled_channels x) ws a) a) ≡ true
+  body_again : (a : Result Words Refusal) → no_refusal (cond short (data_answer (enabled_channels x) ws a) a) ≡ true
       → data_of short (counts_read short (enabled_channels x) ws (replicate 32 0)) (enabled_channels x) ≡ take (length (enabled_channels x)) ws
   body_again a g =
       ap (λ (cs : List ℕ). data_of short cs (enabled_channels x)) counts_are
@@ -97,7 +100,7 @@ module _ (short : Bool) (x : ℕ) (ws : List ℕ) (l : length (enabled_channels 
       ∙ data_again short 32 0 x ws a l g
 
 -- a datum's answer that is no refusal is the one behind the data
-data_done : (ks ws : List ℕ) (a : Answer) → no_refusal (data_answer ks ws a) ≡ true → data_answer ks ws a ≡ a
+data_done : (ks ws : List ℕ) (a : Result Words Refusal) → no_refusal (data_answer ks ws a) ≡ true → data_answer ks ws a ≡ a
 unfolding data_answer
 data_done [] ws a g = refl
 data_done (k ∷ ks) [] a g = absurd (false≢true g)
@@ -146,16 +149,15 @@ module _ (short : Bool) (x : ℕ) (b : x < 2 ^ 32) where
 -- ---- the theorem
 pub read_writes_again : (st : Settings) (ws lent : List ℕ) → st.enable < 2 ^ 32 → ((i : ℕ) → get_or ws i 0 < 2 ^ 32) → no_refusal (read_answer st ws) ≡ true
     → event_length st ≤ length lent
-    → (write_answer st (read_of st ws).event lent ≡ read_answer st ws)
-    × (write_words st (read_of st ws).event lent ≡ take (event_length st) ws ++ drop (event_length st) lent)
-unfolding read_of
+    → (write_answer st (event_given (read_of st ws)) lent ≡ read_answer st ws)
+    × (write_words st (event_given (read_of st ws)) lent ≡ take (event_length st) ws ++ drop (event_length st) lent)
 read_writes_again st ws lent b w d r =
     let p = read_done st ws d in
     let q = body_done st ws p.2 in
     let can : writable st (event_in st ws) ≡ true = can_again st.short st.enable b st.header ws (w 0) q.0 in
     let same : event_words st (event_in st ws) ≡ take (event_length st) ws = words_again st.short st.enable b st.header ws (w 0) q.0 p.1 q.1 in
     let a : read_answer st ws ≡ gives_length st = reads_done st ws (ones_in_le 32 st.enable) p.0 q.0 p.1 (good st.short q.1) in
-    rw d (write_answers st (event_in st ws) lent p.0 can r ∙ sym a, write_leaves st (event_in st ws) lent p.0 can r ∙ ap (λ (us : List ℕ). us ++ drop (event_length st) lent) same)
+    rw (given_event st ws d) (write_answers st (event_in st ws) lent p.0 can r ∙ sym a, write_leaves st (event_in st ws) lent p.0 can r ∙ ap (λ (us : List ℕ). us ++ drop (event_length st) lent) same)
   where
     good : (t : Bool) → no_refusal (cond t (data_answer (enabled_channels st.enable) (drop (header_length st) ws) (gives_length st)) (gives_length st)) ≡ true
         → t ≡ true → data_answer (enabled_channels st.enable) (drop (header_length st) ws) (gives_length st) ≡ gives_length st

@@ -1,10 +1,8 @@
 -- Document 01, "V830 store": Channel Enable, the event length, and the only way from words to events. Assumes nothing.
-use Rattle.std.specs.Prelude.{ℕ, zero, suc, ◌+◌, ◌/◌, ◌%◌, cond, List, [], ◌∷◌, eqb}
+use Rattle.std.specs.Prelude.{ℕ, zero, suc, ◌+◌, ◌/◌, ◌%◌, cond, List, [], ◌∷◌, Option, Some, None, eqb}
 use Rattle.std.specs.Int.Count.{ones_in}
 use Rattle.layout.specs.declared.Events.{Events}
 use Rattle.layout.specs.declared.Settings.{Settings}
-use Rattle.layout.specs.declared.Stored.{Stored}
-use Rattle.layout.specs.declared.Stored.TheVariants.{Number, NoWords}
 use Rattle.layout.specs.declared.Words.{Words}
 
 -- "A number of words and a number of events are two things"
@@ -35,13 +33,13 @@ header_length st = cond st.header 1 0
 abbrev pub event_length : Settings → ℕ
 event_length st = ones_in 32 st.enable + header_length st
 
--- "MEB Event Number is stored words divided by event length, rounded up, 0 if none"; 8, where "the event would have
--- no words"
+-- "MEB Event Number is stored words divided by event length, rounded up, 0 if none"; none can be
+-- told where "the event would have no words"
 abbrev pub rounded_up : ℕ → ℕ → ℕ
 rounded_up n d = n / d + cond (eqb (n % d) 0) 0 1
 
-abbrev pub events_in : Settings → ℕ → Stored
+abbrev pub events_in : Settings → ℕ → Option Events
 events_in st stored =
-    cond (eqb stored 0) (Number (events 0))
-    (cond (eqb (event_length st) 0) NoWords
-    (Number (events (rounded_up stored (event_length st)))))
+    cond (eqb stored 0) (Some (events 0))
+    (cond (eqb (event_length st) 0) None
+    (Some (events (rounded_up stored (event_length st)))))

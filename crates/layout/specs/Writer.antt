@@ -1,9 +1,10 @@
 -- Document 01: the block writer. "Block writer: 8, 28, then 27." Assumes nothing.
-use Rattle.std.specs.Prelude.{ℕ, ◌/◌, ◌%◌, ◌^◌, Bool, true, cond, ◌&&◌, List, [], ◌∷◌, ◌++◌, eqb, ltb, leb, length, drop}
-use Rattle.layout.specs.declared.Answer.{Answer}
-use Rattle.layout.specs.declared.Answer.TheVariants.{NoWords, TooFewLent, NotAnEvent}
+use Rattle.std.specs.Prelude.{ℕ, ◌/◌, ◌%◌, ◌^◌, Bool, true, cond, ◌&&◌, List, [], ◌∷◌, ◌++◌, Result, eqb, ltb, leb, length, drop}
 use Rattle.layout.specs.declared.Event.{Event}
+use Rattle.layout.specs.declared.Refusal.{Refusal}
+use Rattle.layout.specs.declared.Refusal.TheVariants.{NoWords, TooFewLent, NotAnEvent}
 use Rattle.layout.specs.declared.Settings.{Settings}
+use Rattle.layout.specs.declared.Words.{Words}
 use Rattle.layout.specs.Layout.{event_words}
 use Rattle.layout.specs.Length.{event_length}
 use Rattle.layout.specs.Numbers.{gives_length, unless, no_refusal}
@@ -34,7 +35,7 @@ unfoldable pub writable : Settings → Event → Bool
 writable st ev = fields_fit ev && cond st.header true (fields_zero ev) && counts_fit st.short st.enable ev.counts
 
 -- 8: "the event would have no words"; 28; 27: "lent words too few for the event being written"
-unfoldable pub write_answer : Settings → Event → List ℕ → Answer
+unfoldable pub write_answer : Settings → Event → List ℕ → Result Words Refusal
 write_answer st ev lent =
     unless (ltb 0 (event_length st)) NoWords
     (unless (writable st ev) NotAnEvent

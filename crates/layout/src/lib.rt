@@ -4,7 +4,8 @@
 ghost use Rattle.std.specs.Prelude.{◌≡◌, ◌≤◌};
 ghost use Rattle.std.specs.Int.Count.{ones_in};
 ghost use Rattle.layout.specs.Length.{words, event_length, events_in};
-ghost use Rattle.layout.specs.Numbers.{reply_of};
+ghost use Rattle.layout.specs.Numbers.{refusal_number, reply_of};
+ghost use Rattle.layout.specs.Reader.{no_event};
 
 mod channels;
 mod reader;
@@ -14,15 +15,15 @@ pub use reader::read_event;
 pub use writer::write_event;
 
 // A number of words.
-#[derive(Clone, Copy)]
+#[derive(Clone, Copy, PartialEq, Eq, Debug)]
 pub struct Words(pub u32);
 
 // A number of events.
-#[derive(Clone, Copy)]
+#[derive(Clone, Copy, PartialEq, Eq, Debug)]
 pub struct Events(pub u32);
 
 // What fixes the layout: whether events have a header, whether data are short, and Channel Enable.
-#[derive(Clone, Copy)]
+#[derive(Clone, Copy, PartialEq, Eq, Debug)]
 pub struct Settings {
     pub header: bool,
     pub short: bool,
@@ -30,7 +31,7 @@ pub struct Settings {
 }
 
 // An event: GEO, trigger source, trigger number, and a count for each channel.
-#[derive(Clone, Copy)]
+#[derive(Clone, Copy, PartialEq, Eq, Debug)]
 pub struct Event {
     pub geo: u32,
     pub source: u32,
@@ -38,10 +39,9 @@ pub struct Event {
     pub counts: [u32; 32],
 }
 
-// What reader and writer answer: done, with the event's length, or why they refuse.
-#[derive(Clone, Copy)]
-pub enum Answer {
-    Done(Words),
+// Why reader or writer refuses.
+#[derive(Clone, Copy, PartialEq, Eq, Debug)]
+pub enum Refusal {
     NoWords,
     WordsEnd,
     NotAHeader,
@@ -54,54 +54,71 @@ pub enum Answer {
     NotAnEvent,
 }
 
+// What reader and writer answer: the event's length, or why they refuse.
+pub type Answer = Result<Words, Refusal>;
+
 // An answer as document 01 has it: its number, and its value, which is the length.
-#[derive(Clone, Copy)]
+#[derive(Clone, Copy, PartialEq, Eq, Debug)]
 pub struct Reply {
     pub number: u32,
     pub value: u32,
 }
 
-// What reading a block gives: the answer, and the event, all 0 where it is refused.
-#[derive(Clone, Copy)]
-pub struct Reading {
-    pub answer: Answer,
+// An event that was read: its length and the event.
+#[derive(Clone, Copy, PartialEq, Eq, Debug)]
+pub struct Read {
+    pub length: Words,
     pub event: Event,
 }
 
-// How many events the words stored are; none can be told where an event would have no words.
-#[derive(Clone, Copy)]
-pub enum Stored {
-    Number(Events),
-    NoWords,
+impl Refusal {
+    // Its number.
+    pub fn number(self) -> u32
+        ensures { result ≡ refusal_number self }
+    {
+        match self {
+            Refusal::NoWords => 8,
+            Refusal::WordsEnd => 20,
+            Refusal::NotAHeader => 21,
+            Refusal::CountAbove32 => 22,
+            Refusal::DatumWithBit26 => 23,
+            Refusal::AnotherChannel => 24,
+            Refusal::AnotherCount => 25,
+            Refusal::Bits25And24 => 26,
+            Refusal::TooFewLent => 27,
+            Refusal::NotAnEvent => 28,
+        }
+    }
 }
 
-// The number and the value of an answer.
+// All fields 0, which is what is shown of an event where the reader refuses.
+impl Default for Event {
+    ghost is_default = { λ event. event ≡ no_event };
+
+    fn default() -> Event {
+        Event {
+            geo: 0,
+            source: 0,
+            trigger: 0,
+            counts: [0; 32],
+        }
+    }
+}
+
+// The number and the value of an answer; a refusal comes with the value 0.
 pub fn numbered(answer: Answer) -> Reply
     ensures { result ≡ reply_of answer }
 {
     match answer {
-        Answer::Done(length) => Reply {
+        Ok(length) => Reply {
             number: 0,
             value: length.0,
         },
-        Answer::NoWords => refused(8),
-        Answer::WordsEnd => refused(20),
-        Answer::NotAHeader => refused(21),
-        Answer::CountAbove32 => refused(22),
-        Answer::DatumWithBit26 => refused(23),
-        Answer::AnotherChannel => refused(24),
-        Answer::AnotherCount => refused(25),
-        Answer::Bits25And24 => refused(26),
-        Answer::TooFewLent => refused(27),
-        Answer::NotAnEvent => refused(28),
+        Err(why) => Reply {
+            number: why.number(),
+            value: 0,
+        },
     }
-}
-
-// A refusal comes with the value 0.
-fn refused(number: u32) -> Reply
-    ensures { result ≡ record { number = number; value = 0 } }
-{
-    Reply { number, value: 0 }
 }
 
 // How many channels are enabled: the ones of Channel Enable.
@@ -122,22 +139,17 @@ pub fn event_length(settings: Settings) -> Words
     Words(ones)
 }
 
-// The events that the words stored are: divided by the event length, rounded up, 0 if none.
-pub fn events_in(settings: Settings, stored: Words) -> Stored
+// The events that the words stored are: divided by the event length, rounded up, 0 if none; none can be told where an
+// event would have no words.
+pub fn events_in(settings: Settings, stored: Words) -> Option<Events>
     ensures { result ≡ events_in settings stored.0 }
 {
-    let words = stored.0;
     let event = event_length(settings);
-    let length = event.0;
-    if words == 0 {
-        return Stored::Number(Events(0));
+    if stored.0 == 0 {
+        return Some(Events(0));
     }
-    if length == 0 {
-        return Stored::NoWords;
+    if event.0 == 0 {
+        return None;
     }
-    let whole = words / length;
-    if words % length == 0 {
-        return Stored::Number(Events(whole));
-    }
-    Stored::Number(Events(whole + 1))
+    Some(Events(stored.0.div_ceil(event.0)))
 }

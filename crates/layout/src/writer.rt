@@ -6,7 +6,7 @@ ghost use Rattle.layout.specs.Writer.{fields_fit, fields_zero, zero_if_disabled,
 ghost use Rattle.std.proofs.lemmas.List.Edits.{sets};
 
 use crate::channels::next_channel;
-use crate::{Answer, Event, Settings, enabled_channels, event_length};
+use crate::{Answer, Event, Refusal, Settings, enabled_channels, event_length};
 
 // Writes an event to lent words: its own words and no others, none where it refuses.
 pub fn write_event(settings: Settings, event: Event, words: &mut [u32]) -> Answer
@@ -14,16 +14,16 @@ pub fn write_event(settings: Settings, event: Event, words: &mut [u32]) -> Answe
 {
     let length = event_length(settings);
     if length.0 == 0 {
-        return Answer::NoWords;
+        return Err(Refusal::NoWords);
     }
     if !is_writable(settings, event) {
-        return Answer::NotAnEvent;
+        return Err(Refusal::NotAnEvent);
     }
     if words.len() < length.0 as usize {
-        return Answer::TooFewLent;
+        return Err(Refusal::TooFewLent);
     }
     put_event(settings, event, words);
-    Answer::Done(length)
+    Ok(length)
 }
 
 // Whether an event can be written with these settings.

@@ -13,10 +13,9 @@ use borrow.Author.Tests.{le-leb, lt-ltb, le-ltb, ne_eqb}
 use lib.Dec.{leb}
 use lib.ListN.{length, get_or, set, drop, length-set, drop_of_length-le}
 use lib.Seq.{get_or-set_same, get_or-set_other, append_snoc, drop-cons}
-use Rattle.meb.specs.declared.Handed.TheVariants.{Word}
 use Rattle.meb.specs.declared.Store.{Store}
 use Rattle.meb.specs.Ring.{Memory, lent, behind, put_round, words_round}
-use Rattle.meb.specs.Stores.{Filled, emptied, handed_of, longer, put_of, shorter, stored_words}
+use Rattle.meb.specs.Stores.{Filled, emptied, handed, handed_of, longer, put_of, shorter, stored_words}
 
 -- two places less than a round apart are different
 apart : (c x y : ℕ) → x < y → y < x + c → x % c ≢ y % c
@@ -134,7 +133,7 @@ stored_after_hand_out m memory h l =
     ∙ ap₂ (λ (x : ℕ) (t : List ℕ). get_or memory.words x 0 ∷ t) (mod-eq_of_lt l)
     (sym (round_same c memory.words (behind c m.first) (suc m.first) (m.stored.0 - 1) (behind_place c m.first l)))
 
-pub handed_word : (m : Store) (memory : Memory) → 0 < m.stored.0 → handed_of m memory ≡ Word (get_or memory.words m.first 0) (shorter m)
+pub handed_word : (m : Store) (memory : Memory) → 0 < m.stored.0 → handed_of m memory ≡ handed (get_or memory.words m.first 0) (shorter m)
 handed_word m memory h = rw (ne_eqb m.stored.0 0 (λ e. omega arith))
 
 -- nothing is stored where no words are

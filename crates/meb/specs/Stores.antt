@@ -1,10 +1,9 @@
 -- Document 01, "V830 store": what is known of the event memory, what is put into it and handed out of it. Assumes
 -- nothing.
-use Rattle.std.specs.Prelude.{ℕ, ◌+◌, ◌-◌, Bool, cond, ◌&&◌, List, eqb, ltb, leb, length, get_or}
+use Rattle.std.specs.Prelude.{ℕ, ◌+◌, ◌-◌, Bool, cond, ◌&&◌, List, Option, Some, None, eqb, ltb, leb, length, get_or}
 use Rattle.layout.specs.declared.Words.{Words}
 use Rattle.layout.specs.Length.{words}
 use Rattle.meb.specs.declared.Handed.{Handed}
-use Rattle.meb.specs.declared.Handed.TheVariants.{Nothing, Word}
 use Rattle.meb.specs.declared.Store.{Store}
 use Rattle.meb.specs.Ring.{Memory, lent, behind, put_round, words_round}
 
@@ -32,8 +31,12 @@ stored_words m memory = words_round m.capacity.0 memory.words m.first m.stored.0
 abbrev pub shorter : Store → Store
 shorter m = record { capacity = m.capacity; first = behind m.capacity.0 m.first; stored = words (m.stored.0 - 1) }
 
-abbrev pub handed_of : Store → Memory → Handed
-handed_of m memory = cond (eqb m.stored.0 0) Nothing (Word (get_or memory.words m.first 0) (shorter m))
+-- the word, with what is known of the memory without it
+abbrev pub handed : ℕ → Store → Option Handed
+handed word m = Some (record { word = word; store = m })
+
+abbrev pub handed_of : Store → Memory → Option Handed
+handed_of m memory = cond (eqb m.stored.0 0) None (handed (get_or memory.words m.first 0) (shorter m))
 
 -- an event's words more
 abbrev pub longer : ℕ → Store → Store

@@ -30,6 +30,7 @@ use Rattle.benchlog.proofs.read_entry.Reads as benchlog-read-entry
 use Rattle.benchlog.proofs.fault_number.Reads as benchlog-fault-number
 use Rattle.benchlog.proofs.numbers_of.Reads as benchlog-numbers-of
 use Rattle.benchlog.proofs.read_number.Reads as benchlog-read-number
+use Rattle.layout.proofs.Refusal.number.Reads as layout-number
 use Rattle.layout.proofs.numbered.Reads as layout-numbered
 use Rattle.layout.proofs.event_length.Reads as layout-event-length
 use Rattle.layout.proofs.events_in.Reads as layout-events-in
@@ -163,6 +164,9 @@ pub one_benchlog_read_number : OneResult benchlog-read-number.Post
 one_benchlog_read_number κ given first second e d p q = determined p q
 
 -- ---- layout
+pub one_layout_number : OneResult layout-number.Post
+one_layout_number κ given first second e d p q = determined p q
+
 pub one_layout_numbered : OneResult layout-numbered.Post
 one_layout_numbered κ given first second e d p q = determined p q
 

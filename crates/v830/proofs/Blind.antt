@@ -11,15 +11,14 @@ use lib.ListN.{length, get_or}
 use Rattle.bus.specs.declared.Refusal.TheVariants.{Malformed, WrongMemory, NoChannel, NoMeaning, WordsStored, TooFewFree}
 use Rattle.bus.proofs.Choices.{both_ways, both_by_test}
 use Rattle.count.specs.Counter.{iterate}
-use Rattle.layout.specs.declared.Stored.{Stored}
-use Rattle.layout.specs.declared.Stored.TheVariants as stored
+use Rattle.std.specs.Prelude.{Option, Some, None}
+use Rattle.layout.specs.declared.Events.{Events}
 use Rattle.layout.specs.Layout.{event_words}
 use Rattle.layout.specs.Length.{event_length, events_in}
 use Rattle.layout.proofs.Written.{words_length}
-use Rattle.meb.specs.declared.Handed.TheVariants.{Nothing, Word}
 use Rattle.meb.specs.declared.Store.{Store}
 use Rattle.meb.specs.Ring.{Memory}
-use Rattle.meb.specs.Stores.{stored_words, emptied, shorter, free, Filled, put_of}
+use Rattle.meb.specs.Stores.{stored_words, emptied, shorter, free, Filled, put_of, handed}
 use Rattle.meb.proofs.RingLaws.{stored_after_put, stored_after_hand_out, emptied_none}
 use Rattle.v830.specs.declared.Call.{Call}
 use Rattle.v830.specs.declared.deeds.Deed.{Deed}
@@ -90,7 +89,7 @@ module _ (s : V830) (m n : Memory) (g : formed s ≡ true) (l : length m.words �
       b : ℕ
       b = get_or n.words s.store.first 0
 
-      go : (t : Bool) → eqb s.store.stored.0 0 ≡ t → Alike (kept m (handed_on s (cond t Nothing (Word a (shorter s.store))))) (kept n (handed_on s (cond t Nothing (Word b (shorter s.store)))))
+      go : (t : Bool) → eqb s.store.stored.0 0 ≡ t → Alike (kept m (handed_on s (cond t None (handed a (shorter s.store))))) (kept n (handed_on s (cond t None (handed b (shorter s.store)))))
       go true z = same _ refl
       go false z =
           let some : 0 < s.store.stored.0 = omega (arith, eqb-false s.store.stored.0 0 z) in
@@ -124,9 +123,9 @@ module _ (s : V830) (m n : Memory) (g : formed s ≡ true) (l : length m.words �
       (same _ refl))
       (same _ refl)
 
-  number_alike : (x : Stored) → Alike (kept m (events_read s x)) (kept n (events_read s x))
-  number_alike (stored.Number events) = same _ refl
-  number_alike stored.NoWords = same _ refl
+  number_alike : (x : Option Events) → Alike (kept m (events_read s x)) (kept n (events_read s x))
+  number_alike (Some events) = same _ refl
+  number_alike None = same _ refl
 
   pulses_alike : (k t : ℕ) (b : Bool) → Alike (kept m (cond b (done 0 (iterate t (pulse k) s)) (refused NoChannel s))) (kept n (cond b (done 0 (iterate t (pulse k) s)) (refused NoChannel s)))
   pulses_alike k t true = same _ (still_pulses t k s).store

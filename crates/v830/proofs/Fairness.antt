@@ -17,15 +17,14 @@ use Rattle.bus.specs.Answers.{Answer}
 use Rattle.bus.proofs.Choices.{either_way, by_test}
 use Rattle.count.specs.Counter.{next, iterate}
 use Rattle.count.proofs.Mapping.{get_d_map}
-use Rattle.layout.specs.declared.Stored.{Stored}
-use Rattle.layout.specs.declared.Stored.TheVariants as stored
+use Rattle.std.specs.Prelude.{Option, Some, None}
+use Rattle.layout.specs.declared.Events.{Events}
 use Rattle.layout.specs.Layout.{event_words}
 use Rattle.layout.specs.Length.{event_length, events_in}
 use Rattle.layout.specs.Reader.{count_in}
 use Rattle.layout.proofs.Written.{words_length}
-use Rattle.meb.specs.declared.Handed.TheVariants.{Nothing, Word}
 use Rattle.meb.specs.Ring.{Memory}
-use Rattle.meb.specs.Stores.{stored_words, shorter, free}
+use Rattle.meb.specs.Stores.{stored_words, shorter, free, handed}
 use Rattle.meb.proofs.RingLaws.{stored_after_put, stored_after_hand_out}
 use Rattle.v830.specs.declared.Call.{Call}
 use Rattle.v830.specs.declared.Call.TheVariants as call
@@ -97,7 +96,7 @@ module _ (k : ℕ) (b : Step) where
 
     -- a memory read
     read_fair : formed s ≡ true → (c : Bool) → eqb s.store.stored.0 0 ≡ c
-        → Goes reads_memory (kept b.memory (handed_on s (cond c Nothing (Word (get_or b.memory.words s.store.first 0) (shorter s.store)))))
+        → Goes reads_memory (kept b.memory (handed_on s (cond c None (handed (get_or b.memory.words s.store.first 0) (shorter s.store)))))
     unfolding words_of counts_in AllRead
     read_fair g true t = declined reads_memory NothingStored
     read_fair g false t =
@@ -164,9 +163,9 @@ module _ (k : ℕ) (b : Step) where
     looks : (answer : Answer) → Goes no_part (kept b.memory (record { answer = answer; state = s }))
     looks answer = quiet no_part answer s refl refl refl refl f unmoved
 
-    number_fair : (e : Stored) → Goes no_part (kept b.memory (events_read s e))
-    number_fair (stored.Number events) = looks (Ok events.0)
-    number_fair stored.NoWords = looks (Err Malformed)
+    number_fair : (e : Option Events) → Goes no_part (kept b.memory (events_read s e))
+    number_fair (Some events) = looks (Ok events.0)
+    number_fair None = looks (Err Malformed)
 
     enable_fair : (word : ℕ) → Goes no_part (done_by (WriteEnable word) s b.memory)
     enable_fair word =

@@ -16,11 +16,10 @@ use Rattle.bus.specs.Answers.{refusal_number, number_of, value_of, is_done}
 use Rattle.bus.specs.Table.{by_table}
 use Rattle.bus.proofs.Choices.{both_ways, both_by_test}
 use Rattle.bus.proofs.Numbers.{each_number}
-use Rattle.layout.specs.declared.Stored.TheVariants as stored
+use Rattle.std.specs.Prelude.{Some, None}
 use Rattle.layout.specs.Length.{events, event_length, rounded_up}
-use Rattle.meb.specs.declared.Handed.TheVariants.{Nothing, Word}
 use Rattle.meb.specs.Ring.{Memory}
-use Rattle.meb.specs.Stores.{free, shorter}
+use Rattle.meb.specs.Stores.{free, shorter, handed}
 use Rattle.v830.specs.declared.Call.{Call}
 use Rattle.v830.specs.declared.Call.TheVariants as call
 use Rattle.v830.specs.declared.deeds.Deed.{Deed}
@@ -67,7 +66,7 @@ module _ (s : V830) (memory : Memory) where
 
   -- a memory read: something is stored, or nothing
   read_answered : (word : ℕ) (b : Bool) → eqb s.store.stored.0 0 ≡ b
-      → Answered (cond (ltb 0 s.store.stored.0) 0 5) (kept memory (handed_on s (cond b Nothing (Word word (shorter s.store)))))
+      → Answered (cond (ltb 0 s.store.stored.0) 0 5) (kept memory (handed_on s (cond b None (handed word (shorter s.store)))))
   read_answered word true e = rw (le-ltb 0 s.store.stored.0 (omega (arith, eqb-true s.store.stored.0 0 e))) (declines NothingStored)
   read_answered word false e =
       let z = eqb-false s.store.stored.0 0 e in
@@ -83,7 +82,7 @@ module _ (s : V830) (memory : Memory) where
       n : ℕ
       n = rounded_up s.store.stored.0 (event_length (settings s))
 
-      go : (b d : Bool) → b || not d ≡ true → Answered 0 (kept memory (events_read s (cond b (stored.Number (events 0)) (cond d stored.NoWords (stored.Number (events n))))))
+      go : (b d : Bool) → b || not d ≡ true → Answered 0 (kept memory (events_read s (cond b (Some (events 0)) (cond d None (Some (events n))))))
       go true d e = does 0 s memory
       go false false e = does (events n).0 s memory
       go false true e = absurd (false≢true e)

@@ -13,15 +13,14 @@ use Rattle.bus.specs.declared.Refusal.TheVariants.{NothingStored, Malformed, Wro
 use Rattle.bus.proofs.Choices.{either_way, by_test}
 use Rattle.bus.proofs.Places.{left_of, right_of}
 use Rattle.count.specs.Counter.{iterate}
+use Rattle.std.specs.Prelude.{Option, Some, None}
 use Rattle.layout.specs.declared.Words.{Words}
-use Rattle.layout.specs.declared.Stored.{Stored}
-use Rattle.layout.specs.declared.Stored.TheVariants as stored
+use Rattle.layout.specs.declared.Events.{Events}
 use Rattle.layout.specs.Layout.{event_words}
 use Rattle.layout.specs.Length.{event_length, events_in}
-use Rattle.meb.specs.declared.Handed.TheVariants.{Nothing, Word}
 use Rattle.meb.specs.declared.Store.{Store}
 use Rattle.meb.specs.Ring.{Memory}
-use Rattle.meb.specs.Stores.{emptied, fits, free, shorter}
+use Rattle.meb.specs.Stores.{emptied, fits, free, shorter, handed}
 use Rattle.meb.proofs.Fitting.{store_facts, empty_fits, emptied_fits, shorter_fits, put_fits, put_capacity}
 use Rattle.meb.proofs.RingLaws.{put_keeps_length}
 use Rattle.v830.specs.declared.Call.{Call}
@@ -91,7 +90,7 @@ module _ (s : V830) (memory : Memory) (h : formed s ≡ true) where
   or_right_true false d e = e
 
   -- a memory read
-  read_formed : (b : Bool) → eqb s.store.stored.0 0 ≡ b → (word : ℕ) → Well (handed_on s (cond b Nothing (Word word (shorter s.store))))
+  read_formed : (b : Bool) → eqb s.store.stored.0 0 ≡ b → (word : ℕ) → Well (handed_on s (cond b None (handed word (shorter s.store))))
   read_formed true e word = h
   read_formed false e word =
       parts_formed _
@@ -124,9 +123,9 @@ module _ (s : V830) (memory : Memory) (h : formed s ≡ true) where
       (λ w. h))
       h
 
-  number_formed : (e : Stored) → Well (events_read s e)
-  number_formed (stored.Number events) = h
-  number_formed stored.NoWords = h
+  number_formed : (e : Option Events) → Well (events_read s e)
+  number_formed (Some events) = h
+  number_formed None = h
 
   pulses_formed : (k n : ℕ) → formed (iterate n (pulse k) s) ≡ true
   unfolding formed
@@ -190,7 +189,7 @@ module _ (s : V830) (memory : Memory) where
   clear_keeps true = refl
   clear_keeps false = refl
 
-  read_keeps : (word : ℕ) (b : Bool) → Leaves (handed_on s (cond b Nothing (Word word (shorter s.store))))
+  read_keeps : (word : ℕ) (b : Bool) → Leaves (handed_on s (cond b None (handed word (shorter s.store))))
   read_keeps word true = unmoved NothingStored
   read_keeps word false = record { capacity = refl; words = refl }
 
@@ -205,9 +204,9 @@ module _ (s : V830) (memory : Memory) where
       (unmoved NoWords))
       (unmoved NotRandom)
 
-  number_keeps : (e : Stored) → Leaves (events_read s e)
-  number_keeps (stored.Number events) = record { capacity = refl; words = refl }
-  number_keeps stored.NoWords = unmoved Malformed
+  number_keeps : (e : Option Events) → Leaves (events_read s e)
+  number_keeps (Some events) = record { capacity = refl; words = refl }
+  number_keeps None = unmoved Malformed
 
   deed_keeps : (d : Deed) → Kept (done_by d s memory)
   deed_keeps (Refuse why) = unmoved why

@@ -7,7 +7,7 @@ use Rattle.layout.specs.declared.Settings.{Settings}
 use Rattle.layout.specs.Layout.{event_words}
 use Rattle.layout.specs.Length.{event_length}
 use Rattle.layout.specs.Numbers.{gives_length}
-use Rattle.layout.specs.Reader.{read_of}
+use Rattle.layout.specs.Reader.{with_event, read_of}
 use Rattle.meb.specs.Ring.{Memory}
 use Rattle.meb.specs.Stores.{stored_words}
 use Rattle.v830.specs.declared.Call.{Call}
@@ -150,12 +150,12 @@ words_of (e ∷ es) = event_words e.layout e.event ++ words_of es
 -- the block reader reads each of the events from its words
 unfoldable pub AllRead : List Block → Type 0
 AllRead [] = Unit {0}
-AllRead (e ∷ es) = (read_of e.layout (event_words e.layout e.event) ≡ record { answer = gives_length e.layout; event = e.event }) × AllRead es
+AllRead (e ∷ es) = (read_of e.layout (event_words e.layout e.event) ≡ with_event e.event (gives_length e.layout)) × AllRead es
 
 -- the block reader reads the events one after the other, from the first of these words on, and nothing is left
 unfoldable pub ReadsOn : List Block → List ℕ → Type 0
 ReadsOn [] ws = ws ≡ []
-ReadsOn (e ∷ es) ws = (read_of e.layout ws ≡ record { answer = gives_length e.layout; event = e.event }) × ReadsOn es (drop (event_length e.layout) ws)
+ReadsOn (e ∷ es) ws = (read_of e.layout ws ≡ with_event e.event (gives_length e.layout)) × ReadsOn es (drop (event_length e.layout) ws)
 
 -- a channel's counts in events, added up
 unfoldable pub counts_in : ℕ → List Block → ℕ

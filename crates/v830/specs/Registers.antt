@@ -1,17 +1,15 @@
 -- The registers of the V830 (section 3.1 of source document 002 and the registers' own sections; document 01, "V830
 -- store"). Assumes nothing.
-use Rattle.std.specs.Prelude.{ℕ, ◌-◌, ◌%◌, ◌^◌, not, List, [], ◌∷◌, eqb, get_or}
+use Rattle.std.specs.Prelude.{ℕ, ◌-◌, ◌%◌, ◌^◌, not, List, [], ◌∷◌, Option, Some, None, eqb, get_or}
 use Rattle.std.specs.Int.Bits.{bit_and, bit_or}
 use Rattle.bus.specs.declared.Refusal.TheVariants.{NoMeaning, NothingStored, WordsStored, Malformed}
 use Rattle.bus.specs.declared.table.Row.{Row}
 use Rattle.bus.specs.declared.table.Widths.TheVariants.{D16, D32}
 use Rattle.bus.specs.declared.table.Directions.TheVariants.{Read, Write, ReadWrite}
 use Rattle.bus.specs.Table.{row}
-use Rattle.layout.specs.declared.Stored.{Stored}
-use Rattle.layout.specs.declared.Stored.TheVariants.{Number, NoWords}
+use Rattle.layout.specs.declared.Events.{Events}
 use Rattle.layout.specs.Length.{events_in}
 use Rattle.meb.specs.declared.Handed.{Handed}
-use Rattle.meb.specs.declared.Handed.TheVariants.{Nothing, Word}
 use Rattle.meb.specs.Ring.{Memory}
 use Rattle.meb.specs.Stores.{handed_of}
 use Rattle.v830.specs.declared.Outcome.{Outcome}
@@ -71,9 +69,9 @@ abbrev pub meb_event_number : ℕ
 meb_event_number = 10
 
 -- 5: "V830 memory read, nothing stored"; "A read hands out the oldest word and removes it."
-abbrev pub handed_on : V830 → Handed → Outcome
-handed_on s Nothing = refused NothingStored s
-handed_on s (Word word store) = done word (storing store s)
+abbrev pub handed_on : V830 → Option Handed → Outcome
+handed_on s None = refused NothingStored s
+handed_on s (Some handed) = done handed.word (storing handed.store s)
 
 abbrev pub handed_out : V830 → Memory → Outcome
 handed_out s memory = handed_on s (handed_of s.store memory)
@@ -107,9 +105,9 @@ reset s = vetoed s.veto (power_on 0 s.geo s.store.capacity.0)
 
 -- "MEB Event Number is stored words divided by event length, rounded up, 0 if none"; 12: "words stored while the
 -- event length is 0"
-abbrev pub events_read : V830 → Stored → Outcome
-events_read s (Number events) = done events.0 s
-events_read s NoWords = refused Malformed s
+abbrev pub events_read : V830 → Option Events → Outcome
+events_read s (Some events) = done events.0 s
+events_read s None = refused Malformed s
 
 abbrev pub event_number : V830 → Outcome
 event_number s = events_read s (events_in (settings s) s.store.stored.0)

@@ -1,11 +1,15 @@
--- The tests of the definition, with the length as the code has it. Assumes nothing.
-use mathlib.Core.Path.{ap}
+-- The tests of the definition, with the length as the code has it; behind data that are right nothing is refused.
+-- Assumes nothing.
+use mathlib.Core.Path.{sym, ap, ◌∙◌}
 use Prim.Native.Nat.{◌≤◌}
 use borrow.Author.Tests.{lt-leb, le-leb}
-use lib.ListN.{length}
-use Rattle.layout.specs.declared.Answer.TheVariants.{Done}
-use Rattle.layout.specs.Length.{event_length}
+use lib.ListN.{length, drop}
+use Rattle.std.specs.Prelude.{Ok}
+use Rattle.std.proofs.lemmas.Result.{err_from_is_err_and}
+use Rattle.layout.specs.Length.{event_length, header_length, enabled_channels}
+use Rattle.layout.specs.Numbers.{gives_length}
 use Rattle.layout.specs.Reader.{body_answer}
+use Rattle.layout.proofs.Answers.{data_onward}
 use Rattle.layout.proofs.Lengths.{length_of}
 use Rattle.layout.proofs.reader.body_answered.Goals as goal
 
@@ -13,17 +17,24 @@ pub returns-then-words-length : goal.returns-then-words-length
 unfolding body_answer
 returns-then-words-length c = rw (length_of c.args.settings c.event_length-length.ensures, lt-leb _ _ c.if-words-length.true)
 
-pub data_answered-requires : goal.data_answered-requires
-data_answered-requires c = rw (length_of c.args.settings c.event_length-length.ensures) c.if-words-length.false
-
-pub returns-then-settings : goal.returns-then-settings
+pub returns-in_err-data_answered : goal.returns-in_err-data_answered
 unfolding body_answer
-returns-then-settings c = let s = c.args in
+returns-in_err-data_answered c = let s = c.args in
     let h : event_length s.settings ≤ length s.words.now = rw (length_of s.settings c.event_length-length.ensures) c.if-words-length.false in
-    rw (le-leb (event_length s.settings) (length s.words.now) h, c.if-settings.true) c.data_answered.ensures
+    let p = err_from_is_err_and c.from_residual.result c.from_residual.ensures.1 in
+    let d = data_onward (enabled_channels s.settings.enable) (drop (header_length s.settings) s.words.now) (gives_length s.settings) in
+    rw (p.1, p.2, le-leb (event_length s.settings) (length s.words.now) h, c.if-settings.true) (sym (rw (sym c.data_answered.ensures ∙ c.in_err-data_answered.was) at d))
 
-pub returns : goal.returns
+pub returns-in_ok-data_answered : goal.returns-in_ok-data_answered
 unfolding body_answer
-returns c = let s = c.args in
+returns-in_ok-data_answered c = let s = c.args in
     let h : event_length s.settings ≤ length s.words.now = rw (length_of s.settings c.event_length-length.ensures) c.if-words-length.false in
-    rw (le-leb (event_length s.settings) (length s.words.now) h, c.if-settings.false) (ap Done c.event_length-length.ensures)
+    let d = data_onward (enabled_channels s.settings.enable) (drop (header_length s.settings) s.words.now) (gives_length s.settings) in
+    rw (le-leb (event_length s.settings) (length s.words.now) h, c.if-settings.true)
+    (ap Ok c.event_length-length.ensures ∙ sym (rw (sym c.data_answered.ensures ∙ c.in_ok-data_answered.was) at d))
+
+pub returns-else-settings : goal.returns-else-settings
+unfolding body_answer
+returns-else-settings c = let s = c.args in
+    let h : event_length s.settings ≤ length s.words.now = rw (length_of s.settings c.event_length-length.ensures) c.if-words-length.false in
+    rw (le-leb (event_length s.settings) (length s.words.now) h, c.if-settings.false) (ap Ok c.event_length-length.ensures)

@@ -1,6 +1,4 @@
-use mathlib.Core.Path.{ap, ◌∙◌}
-use Rattle.layout.specs.declared.Answer.TheVariants.{Done}
-use Rattle.layout.specs.Numbers.{gives_length}
+use Rattle.layout.specs.Numbers.{passed}
 use Rattle.layout.proofs.Turns.{left_start, left_room}
 use Rattle.layout.proofs.Data.{data_bit_26, data_channel, data_next, data_over}
 use native.Mathlib.Omega.{arith}
@@ -21,13 +19,13 @@ pub returns-then-datum-ne0 : goal.returns-then-datum-ne0
 returns-then-datum-ne0 c = let l = c.loop-left in
     let a = c.args in
     let n = c.next_channel-next in
-    data_bit_26 (gives_length a.settings) l.invariant n.result.channel n.result.left n.ensures.0 c.if-datum-ne0.true
+    data_bit_26 passed l.invariant n.result.channel n.result.left n.ensures.0 c.if-datum-ne0.true
 
 pub returns-then-datum-channel : goal.returns-then-datum-channel
 returns-then-datum-channel c = let l = c.loop-left in
     let a = c.args in
     let n = c.next_channel-next in
-    data_channel (gives_length a.settings) l.invariant n.result.channel n.result.left n.ensures.0 c.if-datum-ne0.false c.if-datum-channel.true
+    data_channel passed l.invariant n.result.channel n.result.left n.ensures.0 c.if-datum-ne0.false c.if-datum-channel.true
 
 pub overflow_add-at : goal.overflow_add-at
 overflow_add-at c = let n = c.next_channel-next in omega (arith, left_room c.loop-left.invariant n.result.channel n.result.left n.ensures.0)
@@ -36,8 +34,8 @@ pub loop-left-preserved : goal.loop-left-preserved
 loop-left-preserved c = let l = c.loop-left in
     let a = c.args in
     let n = c.next_channel-next in
-    data_next (gives_length a.settings) l.invariant n.result.channel n.result.left n.ensures.0 c.if-datum-ne0.false c.if-datum-channel.false
+    data_next passed l.invariant n.result.channel n.result.left n.ensures.0 c.if-datum-ne0.false c.if-datum-channel.false
 
 pub returns : goal.returns
 returns c = let a = c.args in
-    ap Done c.event_length.ensures ∙ data_over (gives_length a.settings) c.loop-left.invariant (search rules)
+    data_over passed c.loop-left.invariant (search rules)

@@ -5,7 +5,7 @@ use mathlib.Core.Bool.{true, not}
 use Prim.Native.Nat.{◌≤◌}
 use lib.ListN.{length}
 use Rattle.count.proofs.Tests.{holds, fails}
-use Rattle.layout.specs.declared.Answer.TheVariants.{Done}
+use Rattle.std.specs.Prelude.{Ok}
 use Rattle.layout.specs.Length.{event_length}
 use Rattle.layout.specs.Writer.{writable, write_answer, write_words}
 use Rattle.layout.proofs.Answers.{fields_fit_lem, writable_parts}
@@ -42,6 +42,6 @@ returns c = let s = c.args in
     let some : event_length s.settings ≡ 0 → ⊥ = rw e c.if-length-eq0.false in
     let can : writable s.settings s.event ≡ true = holds w.ensures (ap not c.if-not-is_writable.false) in
     let room : event_length s.settings ≤ length s.words.now = rw e c.if-words-length.false in (
-      ap Done c.event_length-length.ensures ∙ sym (write_answers s.settings s.event s.words.now some can room),
+      ap Ok c.event_length-length.ensures ∙ sym (write_answers s.settings s.event s.words.now some can room),
       c.put_event.ensures ∙ stored_words_lem s.settings s.event s.words.now room ∙ sym (write_leaves s.settings s.event s.words.now some can room),
     )
