@@ -14,8 +14,7 @@ use mathlib.Core.Bool.{true, false, false≢true}
 use mathlib.Core.List.{List, [], ◌∷◌, ◌++◌}
 use native.Mathlib.Nat.{zero-add}
 use native.Mathlib.Omega.{arith}
-use borrow.Author.Tests.{eq-eqb}
-use lib.Dec.{eqb, leb, ltb}
+use lib.Dec.{leb, ltb}
 use lib.ListN.{length, get_or-replicate}
 use lib.Seq.{drop_at}
 use Rattle.bus.specs.declared.Access.{Access}
@@ -29,10 +28,12 @@ use Rattle.layout.proofs.Written.{words_length}
 use Rattle.meb.specs.Ring.{Memory}
 use Rattle.meb.specs.Stores.{free}
 use Rattle.meb.proofs.RingLaws.{stored_none}
+use Rattle.std.specs.Prelude.{Some}
+use Rattle.v830.specs.declared.state.Mode.TheVariants.{Random}
 use Rattle.v830.specs.declared.Call.TheVariants as call
 use Rattle.v830.specs.declared.deeds.Source.{Source}
 use Rattle.v830.specs.declared.V830.{V830}
-use Rattle.v830.specs.State.{mode, settings, formed}
+use Rattle.v830.specs.State.{mode, is_random, settings, formed}
 use Rattle.v830.specs.Outcomes.{Step, kept, refused}
 use Rattle.v830.specs.Trigger.{accepted, triggered}
 use Rattle.v830.specs.Calls.{has_length, gated}
@@ -60,7 +61,7 @@ formed_run (lending c ∷ ms) b h = formed_run ms _ (formed_stays b.outcome.stat
 formed_run (lending_another other c ∷ ms) b h = formed_run ms _ (formed_stays b.outcome.state other c h)
 
 -- a trigger of a module in random mode that is not malformed has its reason where it is refused
-module _ (s : V830) (memory : Memory) (g : formed s ≡ true) (m : mode s.control ≡ 1) where
+module _ (s : V830) (memory : Memory) (g : formed s ≡ true) (m : mode s.control ≡ Some Random) where
   abbrev Reasoned : Step → Type 0
   Reasoned r = is_done r.outcome.answer ≡ false → Reason s memory (number_of r.outcome.answer)
 
@@ -68,13 +69,13 @@ module _ (s : V830) (memory : Memory) (g : formed s ≡ true) (m : mode s.contro
   trigger_reasoned by =
       by_test Reasoned (formed s) _ (kept memory (refused Malformed s))
       (λ f. by_test Reasoned (has_length s memory) _ (kept memory (refused WrongMemory s))
-      (λ l. by_test Reasoned (eqb (mode s.control) 1) _ (kept memory (refused NotRandom s))
+      (λ l. by_test Reasoned (is_random (mode s.control)) _ (kept memory (refused NotRandom s))
       (λ r. by_test Reasoned (ltb 0 (event_length (settings s))) _ (kept memory (refused NoWords s))
       (λ w. by_test Reasoned (leb (event_length (settings s)) (free s.store).0) (accepted by s memory) (kept memory (refused TooFewFree s))
       (λ r e. absurd (false≢true (sym e)))
       (λ r e. too_few_free r))
       (λ w e. no_words w))
-      (λ r e. absurd (false≢true (sym r ∙ eq-eqb (mode s.control) 1 m))))
+      (λ r e. absurd (false≢true (sym r ∙ ap is_random m))))
       (λ l e. wrong_memory l))
       (λ f e. absurd (false≢true (sym f ∙ g)))
 
@@ -131,7 +132,7 @@ module _ (before : V830) (memory : Memory) (write : Access) (calls : List Made) 
       well : formed s ≡ true
       well = formed_run calls b (formed_stays before memory (call.Access write) (done_formed before memory (call.Access write) st.not_refused))
 
-      random : mode s.control ≡ 1
+      random : mode s.control ≡ Some Random
       random = ap mode (account_balances 0 calls b (omega arith) fits_then st.goes st.others).control ∙ st.random
 
       go : (m : Made) → role_in (call_of m) ≡ triggers_by by → is_done (made t.last m).outcome.answer ≡ false

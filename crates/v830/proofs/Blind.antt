@@ -11,7 +11,7 @@ use lib.ListN.{length, get_or}
 use Rattle.bus.specs.declared.Refusal.TheVariants.{Malformed, WrongMemory, NoChannel, NoMeaning, WordsStored, TooFewFree}
 use Rattle.bus.proofs.Choices.{both_ways, both_by_test}
 use Rattle.count.specs.Counter.{iterate}
-use Rattle.std.specs.Prelude.{Option, Some, None}
+use Rattle.std.specs.Prelude.{Option, Some, None, is_some}
 use Rattle.layout.specs.declared.Events.{Events}
 use Rattle.layout.specs.Layout.{event_words}
 use Rattle.layout.specs.Length.{event_length, events_in}
@@ -26,7 +26,7 @@ use Rattle.v830.specs.declared.deeds.Deed.TheVariants.{Refuse, Pulses, Veto, Tes
 use Rattle.v830.specs.declared.deeds.Source.{Source}
 use Rattle.v830.specs.declared.Outcome.{Outcome}
 use Rattle.v830.specs.declared.V830.{V830}
-use Rattle.v830.specs.State.{mode, is_set, settings, formed, storing, enabling}
+use Rattle.v830.specs.State.{mode, is_random, is_set, settings, formed, storing, enabling}
 use Rattle.v830.specs.Outcomes.{Step, kept, refused, done}
 use Rattle.v830.specs.Counting.{pulse, restarted}
 use Rattle.v830.specs.Trigger.{event_of, counted, accepted, triggered}
@@ -66,7 +66,7 @@ module _ (s : V830) (m n : Memory) (g : formed s ≡ true) (l : length m.words �
       record { outcome = refl; words = ap (λ (x : Store). stored_words x m) t ∙ emptied_none s.store m ∙ sym (emptied_none s.store n) ∙ ap (λ (x : Store). stored_words x n) (sym t) }
 
   control_alike : (result : ℕ) → Alike (kept m (controlled result s)) (kept n (controlled result s))
-  control_alike result = go (not (eqb (mode result) 3))
+  control_alike result = go (is_some (mode result))
     where
       go : (b : Bool) → Alike (kept m (cond b (done 0 (restarted result s)) (refused NoMeaning s))) (kept n (cond b (done 0 (restarted result s)) (refused NoMeaning s)))
       go true = empty (done 0 (restarted result s)) refl
@@ -115,7 +115,7 @@ module _ (s : V830) (m n : Memory) (g : formed s ≡ true) (l : length m.words �
 
   trigger_alike : (by : Source) → Alike (triggered by s m) (triggered by s n)
   trigger_alike by =
-      both_ways Alike (eqb (mode s.control) 1) _ _ _ _
+      both_ways Alike (is_random (mode s.control)) _ _ _ _
       (both_ways Alike (ltb 0 (event_length (settings s))) _ _ _ _
       (both_by_test Alike (leb (event_length (settings s)) (free s.store).0) (accepted by s m) (kept m (refused TooFewFree s)) (accepted by s n) (kept n (refused TooFewFree s))
       (λ t. accept_alike by (leb-true (event_length (settings s)) (free s.store).0 t))

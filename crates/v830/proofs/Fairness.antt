@@ -11,7 +11,7 @@ use borrow.Author.Tests.{ltb-true, leb-true, eqb-true, eqb-false, not-true}
 use lib.Dec.{eqb, leb, ltb}
 use lib.ListN.{length, get_or, get_or-replicate, length-map}
 use Rattle.bus.specs.declared.Refusal.{Refusal}
-use Rattle.std.specs.Prelude.{Ok, Err}
+use Rattle.std.specs.Prelude.{Ok, Err, is_some}
 use Rattle.bus.specs.declared.Refusal.TheVariants.{Malformed, WrongMemory, NoMeaning, NoChannel, NotRandom, NoWords, TooFewFree, NothingStored, WordsStored}
 use Rattle.bus.specs.Answers.{Answer}
 use Rattle.bus.proofs.Choices.{either_way, by_test}
@@ -34,7 +34,7 @@ use Rattle.v830.specs.declared.deeds.Source.{Source}
 use Rattle.v830.specs.declared.deeds.Source.TheVariants.{Line}
 use Rattle.v830.specs.declared.Outcome.{Outcome}
 use Rattle.v830.specs.declared.V830.{V830}
-use Rattle.v830.specs.State.{mode, is_set, settings, zeros, formed, enabling, vetoed}
+use Rattle.v830.specs.State.{mode, is_random, is_set, settings, zeros, formed, enabling, vetoed}
 use Rattle.v830.specs.Outcomes.{Step, kept, refused, done}
 use Rattle.v830.specs.Counting.{pulse, tested}
 use Rattle.v830.specs.Trigger.{event_of, accepted, triggered}
@@ -143,7 +143,7 @@ module _ (k : ℕ) (b : Step) where
     triggers_fair : (by : Source) → formed s ≡ true → length b.memory.words ≡ s.store.capacity.0 → Goes (triggers_by by) (triggered by s b.memory)
     triggers_fair by g l =
         let P : Step → Type 0 = Goes (triggers_by by) in
-        either_way P (eqb (mode s.control) 1) _ _
+        either_way P (is_random (mode s.control)) _ _
         (by_test P (ltb 0 (event_length (settings s))) _ _
         (λ z. by_test P (leb (event_length (settings s)) (free s.store).0) _ _
         (λ t. accepts by g (ltb-true 0 (event_length (settings s)) z) l (leb-true (event_length (settings s)) (free s.store).0 t))
@@ -157,7 +157,7 @@ module _ (k : ℕ) (b : Step) where
 
     control_fair : (result : ℕ) → Goes writes_control (kept b.memory (controlled result s))
     control_fair result =
-        either_way (λ (o : Outcome). Goes writes_control (kept b.memory o)) (not (eqb (mode result) 3)) _ (refused NoMeaning s)
+        either_way (λ (o : Outcome). Goes writes_control (kept b.memory o)) (is_some (mode result)) _ (refused NoMeaning s)
         (ends_fair writes_control 0 _ refl) (declined writes_control NoMeaning)
 
     looks : (answer : Answer) → Goes no_part (kept b.memory (record { answer = answer; state = s }))

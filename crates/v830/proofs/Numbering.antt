@@ -16,7 +16,7 @@ use Rattle.bus.specs.Answers.{refusal_number, number_of, value_of, is_done}
 use Rattle.bus.specs.Table.{by_table}
 use Rattle.bus.proofs.Choices.{both_ways, both_by_test}
 use Rattle.bus.proofs.Numbers.{each_number}
-use Rattle.std.specs.Prelude.{Some, None}
+use Rattle.std.specs.Prelude.{Some, None, is_some}
 use Rattle.layout.specs.Length.{events, event_length, rounded_up}
 use Rattle.meb.specs.Ring.{Memory}
 use Rattle.meb.specs.Stores.{free, shorter, handed}
@@ -28,7 +28,7 @@ use Rattle.v830.specs.declared.deeds.Source.{Source}
 use Rattle.v830.specs.declared.deeds.Source.TheVariants.{Line, Register}
 use Rattle.v830.specs.declared.Outcome.{Outcome}
 use Rattle.v830.specs.declared.V830.{V830}
-use Rattle.v830.specs.State.{mode, settings, formed, power_on, storing}
+use Rattle.v830.specs.State.{mode, is_random, settings, formed, power_on, storing}
 use Rattle.v830.specs.Outcomes.{Step, kept, refused, done, started}
 use Rattle.v830.specs.Trigger.{accepted, triggered}
 use Rattle.v830.specs.Counting.{restarted}
@@ -56,7 +56,7 @@ module _ (s : V830) (memory : Memory) where
 
   trigger_answered : (by : Source) → Answered (trigger_number s) (triggered by s memory)
   trigger_answered by =
-      both_ways Answered (eqb (mode s.control) 1) _ _ _ _
+      both_ways Answered (is_random (mode s.control)) _ _ _ _
       (both_ways Answered (ltb 0 (event_length (settings s))) _ _ _ _
       (both_ways Answered (leb (event_length (settings s)) (free s.store).0) 0 9 (accepted by s memory) (kept memory (refused TooFewFree s))
       (does 0 (accepted by s memory).outcome.state (accepted by s memory).memory)
@@ -88,7 +88,7 @@ module _ (s : V830) (memory : Memory) where
       go false true e = absurd (false≢true e)
 
   control_answered : (result : ℕ) → Answered (control_number result) (kept memory (controlled result s))
-  control_answered result = does_if (not (eqb (mode result) 3)) NoMeaning 0 (restarted result s)
+  control_answered result = does_if (is_some (mode result)) NoMeaning 0 (restarted result s)
 
   -- deed by deed
   deed_answered : formed s ≡ true → (d : Deed) → Answered (deed_number s d) (done_by d s memory)

@@ -2,8 +2,8 @@
 -- by deed; no other role is meant. Assumes nothing.
 use Prim.Native.Nat.{ℕ}
 use mathlib.Core.Path.{◌≡◌, refl, ap, ◌∙◌}
-use mathlib.Core.Bool.{Bool, true, false, not, false≢true}
-use lib.Dec.{eqb}
+use mathlib.Core.Bool.{Bool, true, false, false≢true}
+use Rattle.std.specs.Prelude.{is_some}
 use Rattle.bus.specs.declared.Refusal.TheVariants.{NoMeaning, Malformed, WrongMemory}
 use Rattle.bus.specs.Answers.{is_done}
 use Rattle.bus.proofs.Choices.{by_test}
@@ -75,7 +75,7 @@ module _ (s : V830) (memory : Memory) where
 
   control_restarts : (result : ℕ) → Restarts (kept memory (controlled result s))
   control_restarts result =
-      by_test (λ (o : Outcome). Restarts (kept memory o)) (not (eqb (mode result) 3)) (done 0 (restarted result s)) (refused NoMeaning s)
+      by_test (λ (o : Outcome). Restarts (kept memory o)) (is_some (mode result)) (done 0 (restarted result s)) (refused NoMeaning s)
       (λ m e. record { counts = refl; enable = refl; stored = refl })
       (λ m e. absurd (false≢true e))
 

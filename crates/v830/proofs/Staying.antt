@@ -13,7 +13,7 @@ use Rattle.bus.specs.declared.Refusal.TheVariants.{NothingStored, Malformed, Wro
 use Rattle.bus.proofs.Choices.{either_way, by_test}
 use Rattle.bus.proofs.Places.{left_of, right_of}
 use Rattle.count.specs.Counter.{iterate}
-use Rattle.std.specs.Prelude.{Option, Some, None}
+use Rattle.std.specs.Prelude.{Option, Some, None, is_some}
 use Rattle.layout.specs.declared.Words.{Words}
 use Rattle.layout.specs.declared.Events.{Events}
 use Rattle.layout.specs.Layout.{event_words}
@@ -29,7 +29,7 @@ use Rattle.v830.specs.declared.deeds.Deed.TheVariants.{Refuse, Pulses, Veto, Tes
 use Rattle.v830.specs.declared.deeds.Source.{Source}
 use Rattle.v830.specs.declared.Outcome.{Outcome}
 use Rattle.v830.specs.declared.V830.{V830}
-use Rattle.v830.specs.State.{mode, is_set, settings, explained, formed, storing, enabling}
+use Rattle.v830.specs.State.{mode, is_random, is_set, settings, explained, formed, storing, enabling}
 use Rattle.v830.specs.Outcomes.{Step, kept, refused, done}
 use Rattle.v830.specs.Counting.{pulse, restarted}
 use Rattle.v830.specs.Trigger.{event_of, filled_by, accepted, triggered}
@@ -43,7 +43,7 @@ pub record Formed (s : V830) : Type 0 where
   pub geo : leb s.geo 31 ≡ true
   pub store : fits s.store ≡ true
   pub words : explained s ≡ true
-  pub mode : not (eqb (mode s.control) 3) ≡ true
+  pub mode : is_some (mode s.control) ≡ true
 
 pub formed_parts : (s : V830) → formed s ≡ true → Formed s
 unfolding formed
@@ -77,7 +77,7 @@ module _ (s : V830) (memory : Memory) (h : formed s ≡ true) where
   -- a write of Control
   control_formed : (result : ℕ) → Well (controlled result s)
   control_formed result =
-      by_test Well (not (eqb (mode result) 3)) (done 0 (restarted result s)) (refused NoMeaning s)
+      by_test Well (is_some (mode result)) (done 0 (restarted result s)) (refused NoMeaning s)
       (λ m. parts_formed _ (record { geo = f.geo; store = emptied_fits s.store f.store; words = refl; mode = m }))
       (λ m. h)
 
@@ -117,7 +117,7 @@ module _ (s : V830) (memory : Memory) (h : formed s ≡ true) where
   trigger_formed : (by : Source) → Well (triggered by s memory).outcome
   trigger_formed by =
       let P : Step → Type 0 = λ r. Well r.outcome in
-      either_way P (eqb (mode s.control) 1) _ (kept memory (refused NotRandom s))
+      either_way P (is_random (mode s.control)) _ (kept memory (refused NotRandom s))
       (by_test P (ltb 0 (event_length (settings s))) _ (kept memory (refused NoWords s))
       (λ w. either_way P (leb (event_length (settings s)) (free s.store).0) (accepted by s memory) (kept memory (refused TooFewFree s)) (accept_formed by w) h)
       (λ w. h))
@@ -183,7 +183,7 @@ module _ (s : V830) (memory : Memory) where
   unmoved why = record { capacity = refl; words = refl }
 
   control_keeps : (result : ℕ) → Leaves (controlled result s)
-  control_keeps result = either_way Leaves (not (eqb (mode result) 3)) (done 0 (restarted result s)) (refused NoMeaning s) (record { capacity = refl; words = refl }) (unmoved NoMeaning)
+  control_keeps result = either_way Leaves (is_some (mode result)) (done 0 (restarted result s)) (refused NoMeaning s) (record { capacity = refl; words = refl }) (unmoved NoMeaning)
 
   clear_keeps : (b : Bool) → (cond b (emptied s.store) s.store).capacity ≡ s.store.capacity
   clear_keeps true = refl
@@ -196,7 +196,7 @@ module _ (s : V830) (memory : Memory) where
   trigger_keeps : (by : Source) → Kept (triggered by s memory)
   trigger_keeps by =
       let ws : List ℕ = event_words (settings s) (event_of by s) in
-      either_way Kept (eqb (mode s.control) 1) _ (kept memory (refused NotRandom s))
+      either_way Kept (is_random (mode s.control)) _ (kept memory (refused NotRandom s))
       (either_way Kept (ltb 0 (event_length (settings s))) _ (kept memory (refused NoWords s))
       (either_way Kept (leb (event_length (settings s)) (free s.store).0) (accepted by s memory) (kept memory (refused TooFewFree s))
       (record { capacity = put_capacity s.store memory ws; words = put_keeps_length s.store memory ws })

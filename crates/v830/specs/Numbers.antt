@@ -1,6 +1,6 @@
 -- T1's words for the V830: what a refused call leaves, and the number that each call gets, line by line of document
 -- 01 in its order 12, 10, 1, 2, 3, 11, 4, 6, 5, 7, 8, 9. Assumes nothing.
-use Rattle.std.specs.Prelude.{ℕ, ◌≡◌, Bool, false, cond, ◌&&◌, not, eqb, leb, ltb, length}
+use Rattle.std.specs.Prelude.{ℕ, ◌≡◌, Bool, false, cond, ◌&&◌, eqb, leb, ltb, length, is_some}
 use Rattle.bus.specs.Answers.{refusal_number, value_of, is_done}
 use Rattle.bus.specs.Table.{table_number}
 use Rattle.layout.specs.Length.{event_length}
@@ -11,7 +11,7 @@ use Rattle.v830.specs.declared.Call.TheVariants as call
 use Rattle.v830.specs.declared.deeds.Deed.{Deed}
 use Rattle.v830.specs.declared.deeds.Deed.TheVariants.{Refuse, Pulses, Veto, Test, Clear, Trigger, HandOut, ReadCounter, ReadEnable, WriteEnable, ReadControl, WriteControl, SetBits, ClearBits, Reset, ReadTriggers, ReadEvents}
 use Rattle.v830.specs.declared.V830.{V830}
-use Rattle.v830.specs.State.{mode, settings, formed}
+use Rattle.v830.specs.State.{mode, is_random, settings, formed}
 use Rattle.v830.specs.Outcomes.{Step}
 use Rattle.v830.specs.Registers.{registers, as_written, with_bits, without_bits}
 use Rattle.v830.specs.Deeds.{deed_at}
@@ -29,13 +29,13 @@ unless_number holds number after = cond holds after number
 -- 7: "mode is not random"; 8: "the event would have no words"; 9: "free words are fewer than the event's"
 abbrev pub trigger_number : V830 → ℕ
 trigger_number s =
-    unless_number (eqb (mode s.control) 1) 7
+    unless_number (is_random (mode s.control)) 7
     (unless_number (ltb 0 (event_length (settings s))) 8
     (unless_number (leb (event_length (settings s)) (free s.store).0) 9 0))
 
 -- 4: "a Control result with both low bits 1"
 abbrev pub control_number : ℕ → ℕ
-control_number result = unless_number (not (eqb (mode result) 3)) 4 0
+control_number result = unless_number (is_some (mode result)) 4 0
 
 -- what a deed gives: 11: "channel not below .. 32"; 4; 6: "Channel Enable written while words are stored"; 5: "V830
 -- memory read, nothing stored"; 7, 8, 9

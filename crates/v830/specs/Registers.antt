@@ -1,6 +1,6 @@
 -- The registers of the V830 (section 3.1 of source document 002 and the registers' own sections; document 01, "V830
 -- store"). Assumes nothing.
-use Rattle.std.specs.Prelude.{ℕ, ◌-◌, ◌%◌, ◌^◌, not, List, [], ◌∷◌, Option, Some, None, eqb, get_or}
+use Rattle.std.specs.Prelude.{ℕ, ◌-◌, ◌%◌, ◌^◌, List, [], ◌∷◌, Option, Some, None, eqb, get_or, is_some}
 use Rattle.std.specs.Int.Bits.{bit_and, bit_or}
 use Rattle.bus.specs.declared.Refusal.TheVariants.{NoMeaning, NothingStored, WordsStored, Malformed}
 use Rattle.bus.specs.declared.table.Row.{Row}
@@ -87,7 +87,7 @@ enable_written word s = unless (eqb s.store.stored.0 0) WordsStored s (done 0 (e
 
 -- a write of Control by one of its three addresses; 4: "a Control result with both low bits 1"
 abbrev pub controlled : ℕ → V830 → Outcome
-controlled result s = unless (not (eqb (mode result) 3)) NoMeaning s (done 0 (restarted result s))
+controlled result s = unless (is_some (mode result)) NoMeaning s (done 0 (restarted result s))
 
 -- the three results: "Bits 8 to 15 are ignored."; "Set and Clear registers change only the bits written as 1."
 abbrev pub as_written : ℕ → ℕ

@@ -1,6 +1,6 @@
 -- The stretch of demand 3, "V830, random trigger, AUTO RESET, from the Control write that set this", and the reasons
 -- for which a trigger is neglected in it. Assumes nothing.
-use Rattle.std.specs.Prelude.{ℕ, ◌≡◌, true, false, List, leb, ltb}
+use Rattle.std.specs.Prelude.{ℕ, ◌≡◌, true, false, List, leb, ltb, Some}
 use Rattle.bus.specs.declared.Access.{Access}
 use Rattle.bus.specs.Answers.{is_done}
 use Rattle.layout.specs.Length.{event_length}
@@ -8,6 +8,7 @@ use Rattle.meb.specs.Ring.{Memory}
 use Rattle.meb.specs.Stores.{free}
 use Rattle.v830.specs.declared.Call.TheVariants as call
 use Rattle.v830.specs.declared.V830.{V830}
+use Rattle.v830.specs.declared.state.Mode.TheVariants.{Random}
 use Rattle.v830.specs.State.{mode, is_set, settings}
 use Rattle.v830.specs.Outcomes.{Step}
 use Rattle.v830.specs.Calls.{has_length, step_of}
@@ -25,7 +26,7 @@ pub record Stretch (before : V830) (memory : Memory) (write : Access) (calls : L
   pub control : role_in (call.Access write) ≡ writes_control
   pub not_refused : is_done (begun before memory write).outcome.answer ≡ true
   -- "that set this": "random trigger, AUTO RESET"
-  pub random : mode (begun before memory write).outcome.state.control ≡ 1
+  pub random : mode (begun before memory write).outcome.state.control ≡ Some Random
   pub auto_reset : is_set 7 (begun before memory write).outcome.state.control ≡ true
   -- up to the next such write, or a CLEAR or a reset, that is not refused
   pub goes : each goes_on calls (begun before memory write) ≡ true

@@ -12,7 +12,7 @@ use Rattle.meb.specs.Stores.{Filled, free, put_of}
 use Rattle.v830.specs.declared.deeds.Source.{Source}
 use Rattle.v830.specs.declared.deeds.Source.TheVariants.{Line, Register}
 use Rattle.v830.specs.declared.V830.{V830}
-use Rattle.v830.specs.State.{counting, storing, tallying, with_triggers, mode, is_set, settings, zeros}
+use Rattle.v830.specs.State.{counting, storing, tallying, with_triggers, mode, is_random, is_set, settings, zeros}
 use Rattle.v830.specs.Outcomes.{Step, done, unless_lent}
 
 -- section 3.2 of 002: the trigger's source is 1, "external", by the line, and 0, "VME request", by the register
@@ -60,7 +60,7 @@ accepted by s memory = record { outcome = done 0 (counted (filled_by by s memory
 -- event's"; "A neglected trigger (7, 8, 9) changes nothing. BUSY time is taken as nothing."
 abbrev pub triggered : Source → V830 → Memory → Step
 triggered by s memory =
-    unless_lent (eqb (mode s.control) 1) NotRandom s memory
+    unless_lent (is_random (mode s.control)) NotRandom s memory
     (unless_lent (ltb 0 (event_length (settings s))) NoWords s memory
     (unless_lent (leb (event_length (settings s)) (free s.store).0) TooFewFree s memory
     (accepted by s memory)))

@@ -5,101 +5,85 @@ ghost use Rattle.v830.specs.State.{formed};
 ghost use Rattle.v830.specs.Deeds.{done_by, counter_of};
 ghost use Rattle.v830.specs.Calls.{is_lent, has_length, is_lent_right, gate_of, step_of};
 
-use crate::counting::{cleared, pulsed, tested, vetoed};
 use crate::deeds::{Deed, of_call};
-use crate::registers::{
-    clear_bits, controlled, counter, event_number, hand_out, reset, set_bits, write_enable,
-};
-use crate::state::is_formed;
-use crate::trigger::triggered;
-use crate::{Call, Outcome, V830, done, refused};
+use crate::{Call, Outcome, V830};
 use bus::{Answer, Refusal};
 
-// Whether the memory that is lent has the length fixed at the start.
-fn has_length(s: V830, memory: &[u32]) -> bool
-    ensures { result ≡ has_length s (lent memory.now) }
-{
-    let store = s.store;
-    let capacity = store.capacity;
-    memory.len() == capacity.0 as usize
-}
-
-// Whether a call is lent the memory: accesses and the trigger are.
-fn is_lent(call: Call) -> bool
-    ensures { result ≡ is_lent call }
-{
-    match call {
-        Call::Pulses(_, _) => false,
-        Call::VetoLine(_) => false,
-        Call::Test => false,
-        Call::ClearLine => false,
-        Call::TriggerLine => true,
-        Call::Access(_) => true,
-        Call::ManClr => false,
+impl Call {
+    // Whether a call is lent the memory: accesses and the trigger are.
+    fn is_lent(self) -> bool
+        ensures { result ≡ is_lent self }
+    {
+        matches!(self, Call::TriggerLine | Call::Access(_))
     }
 }
 
-// Whether a call is lent no memory, or that of the module.
-fn is_lent_right(s: V830, memory: &[u32], call: Call) -> bool
-    ensures { result ≡ is_lent_right s (lent memory.now) call }
-{
-    if is_lent(call) {
-        return has_length(s, memory);
+impl V830 {
+    // Whether the memory that is lent has the length fixed at the start.
+    fn has_length(self, memory: &[u32]) -> bool
+        ensures { result ≡ has_length self (lent memory.now) }
+    {
+        memory.len() == self.store.capacity.0 as usize
     }
-    true
+
+    // Whether a call is lent no memory, or that of the module.
+    fn is_lent_right(self, memory: &[u32], call: Call) -> bool
+        ensures { result ≡ is_lent_right self (lent memory.now) call }
+    {
+        !call.is_lent() || self.has_length(memory)
+    }
+
+    // Does what a call is to do, to a module that is not malformed.
+    fn perform(self, deed: Deed, memory: &mut [u32]) -> Outcome
+        requires { (formed self ≡ true) × (counter_of deed < 32) }
+        ensures { (result ≡ (done_by deed self (lent memory.old)).outcome) × (memory.new ≡ (done_by deed self (lent memory.old)).memory.words) }
+    {
+        match deed {
+            Deed::Refuse(why) => self.refused(why),
+            Deed::Pulses(channel, n) => self.pulsed(channel, n),
+            Deed::Veto(on) => self.vetoed(on).done(0),
+            Deed::Test => self.tested().done(0),
+            Deed::Clear(by) => self.cleared(by).done(0),
+            Deed::Trigger(by) => self.triggered(by, memory),
+            Deed::HandOut => self.hand_out(memory),
+            Deed::ReadCounter(k) => self.counter(k as usize),
+            Deed::ReadEnable => self.done(self.enable),
+            Deed::WriteEnable(word) => self.write_enable(word),
+            Deed::ReadControl => self.done(self.control as u32),
+            Deed::WriteControl(word) => self.controlled((word % 256) as u8),
+            Deed::SetBits(word) => self.set_bits(word),
+            Deed::ClearBits(word) => self.clear_bits(word),
+            Deed::Reset => self.reset().done(0),
+            Deed::ReadTriggers => self.done(self.tallies.triggers),
+            Deed::ReadEvents => self.event_number(),
+        }
+    }
 }
 
 // The gate by itself, for who makes many calls on one memory: 12, 10 or neither.
 pub fn gate(s: V830, memory: &[u32]) -> Answer
     ensures { result ≡ gate_of s (lent memory.now) }
 {
-    if !is_formed(s) {
+    if !s.is_formed() {
         return Err(Refusal::Malformed);
     }
-    if has_length(s, memory) {
-        return Ok(0);
+    if !s.has_length(memory) {
+        return Err(Refusal::WrongMemory);
     }
-    Err(Refusal::WrongMemory)
-}
-
-// Does what a call is to do, to a module that is not malformed.
-fn perform(deed: Deed, s: V830, memory: &mut [u32]) -> Outcome
-    requires { (formed s ≡ true) × (counter_of deed < 32) }
-    ensures { (result ≡ (done_by deed s (lent memory.old)).outcome) × (memory.new ≡ (done_by deed s (lent memory.old)).memory.words) }
-{
-    let tallies = s.tallies;
-    match deed {
-        Deed::Refuse(why) => refused(why, s),
-        Deed::Pulses(channel, n) => pulsed(channel, n, s),
-        Deed::Veto(on) => done(0, vetoed(on, s)),
-        Deed::Test => done(0, tested(s)),
-        Deed::Clear(by) => done(0, cleared(by, s)),
-        Deed::Trigger(by) => triggered(by, s, memory),
-        Deed::HandOut => hand_out(s, memory),
-        Deed::ReadCounter(k) => counter(k as usize, s),
-        Deed::ReadEnable => done(s.enable, s),
-        Deed::WriteEnable(word) => write_enable(word, s),
-        Deed::ReadControl => done(s.control as u32, s),
-        Deed::WriteControl(word) => controlled((word % 256) as u8, s),
-        Deed::SetBits(word) => set_bits(word, s),
-        Deed::ClearBits(word) => clear_bits(word, s),
-        Deed::Reset => done(0, reset(s)),
-        Deed::ReadTriggers => done(tallies.triggers, s),
-        Deed::ReadEvents => event_number(s),
-    }
+    Ok(0)
 }
 
 // Any call: the gate, then the deed.
 pub fn step(s: V830, memory: &mut [u32], call: Call) -> Outcome
     ensures { (result ≡ (step_of s (lent memory.old) call).outcome) × (memory.new ≡ (step_of s (lent memory.old) call).memory.words) }
 {
-    if !is_formed(s) {
-        return refused(Refusal::Malformed, s);
+    if !s.is_formed() {
+        return s.refused(Refusal::Malformed);
     }
-    if !is_lent_right(s, memory, call) {
-        return refused(Refusal::WrongMemory, s);
+    if !s.is_lent_right(memory, call) {
+        return s.refused(Refusal::WrongMemory);
     }
-    perform(of_call(call), s, memory)
+    s.perform(of_call(call), memory)
 }
 
 // The inner door, for proved callers that carry along that the module is not malformed and has its memory: any call,
@@ -108,5 +92,5 @@ pub fn step_formed(s: V830, memory: &mut [u32], call: Call) -> Outcome
     requires { (formed s ≡ true) × (length memory.old ≡ s.store.capacity.0) }
     ensures { (result ≡ (step_of s (lent memory.old) call).outcome) × (memory.new ≡ (step_of s (lent memory.old) call).memory.words) }
 {
-    perform(of_call(call), s, memory)
+    s.perform(of_call(call), memory)
 }

@@ -1,7 +1,7 @@
 // What a call is to do, its deed: lines and registers that do the same have one name, so that each is done in one
 // place.
-ghost use Rattle.std.specs.Prelude.{◌≡◌, cond};
-ghost use Rattle.v830.specs.declared.deeds.Deed.TheVariants.{ReadEnable, WriteEnable, ReadControl, WriteControl};
+ghost use Rattle.std.specs.Prelude.{◌≡◌};
+ghost use Rattle.v830.specs.Trigger.{code_of};
 ghost use Rattle.v830.specs.Deeds.{deed_at, deed_of_access, deed_of};
 
 use crate::{
@@ -11,14 +11,26 @@ use crate::{
 use bus::{Access, Refusal};
 
 // Who clears or triggers: the front line, or the register.
-#[derive(Clone, Copy)]
+#[derive(Clone, Copy, PartialEq, Eq, Debug)]
 pub enum Source {
     Line,
     Register,
 }
 
+impl Source {
+    // The code of a trigger's source: by the line it is external, by the register a VME request.
+    pub(crate) fn code(self) -> u32
+        ensures { result ≡ code_of self }
+    {
+        match self {
+            Source::Line => 1,
+            Source::Register => 0,
+        }
+    }
+}
+
 // What a call is to do.
-#[derive(Clone, Copy)]
+#[derive(Clone, Copy, PartialEq, Eq, Debug)]
 pub enum Deed {
     Refuse(Refusal),
     Pulses(u32, u32),
@@ -39,15 +51,18 @@ pub enum Deed {
     ReadEvents,
 }
 
-// The deed of an access that reaches a row of the table and a place in it.
+// The deed of an access that reaches a row of the table and a place in it. A row is named by its place in the table, as
+// the look-up gives it, and not by an enum, which would say the table once more.
 fn of_row(row: usize, place: u32, a: Access) -> Deed
     ensures { result ≡ deed_at row place a }
 {
     match row {
         MEB_WINDOW => Deed::HandOut,
         COUNTERS => Deed::ReadCounter(place),
-        CHANNEL_ENABLE => of_enable(a),
-        CONTROL => of_control(a),
+        CHANNEL_ENABLE if a.write => Deed::WriteEnable(a.data),
+        CHANNEL_ENABLE => Deed::ReadEnable,
+        CONTROL if a.write => Deed::WriteControl(a.data),
+        CONTROL => Deed::ReadControl,
         CONTROL_BIT_SET => Deed::SetBits(a.data),
         CONTROL_BIT_CLEAR => Deed::ClearBits(a.data),
         SOFTWARE_RESET => Deed::Reset,
@@ -59,33 +74,13 @@ fn of_row(row: usize, place: u32, a: Access) -> Deed
     }
 }
 
-// Channel Enable, read or written.
-fn of_enable(a: Access) -> Deed
-    ensures { result ≡ cond a.write (WriteEnable a.«data») ReadEnable }
-{
-    if a.write {
-        return Deed::WriteEnable(a.data);
-    }
-    Deed::ReadEnable
-}
-
-// Control, read or written.
-fn of_control(a: Access) -> Deed
-    ensures { result ≡ cond a.write (WriteControl a.«data») ReadControl }
-{
-    if a.write {
-        return Deed::WriteControl(a.data);
-    }
-    Deed::ReadControl
-}
-
 // The deed of an access, by the table.
 fn of_access(a: Access) -> Deed
     ensures { result ≡ deed_of_access a }
 {
     match bus::table::look_up(&TABLE, a) {
-        Err(why) => Deed::Refuse(why),
         Ok(to) => of_row(to.row, to.place, a),
+        Err(why) => Deed::Refuse(why),
     }
 }
 

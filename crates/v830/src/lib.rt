@@ -57,13 +57,13 @@ const TRIGGER_COUNTER: usize = 9;
 const MEB_EVENT_NUMBER: usize = 10;
 
 // What is only counted up: the accepted triggers, in the Trigger Counter.
-#[derive(Clone, Copy)]
+#[derive(Clone, Copy, PartialEq, Eq, Debug)]
 pub struct Tallies {
     pub triggers: u32,
 }
 
 // The counters, Channel Enable, GEO, the event memory, the tallies, Control and the VETO line.
-#[derive(Clone, Copy)]
+#[derive(Clone, Copy, PartialEq, Eq, Debug)]
 pub struct V830 {
     pub counts: [u32; 32],
     pub enable: u32,
@@ -75,14 +75,14 @@ pub struct V830 {
 }
 
 // What a call gives: the answer, and the module after it.
-#[derive(Clone, Copy)]
+#[derive(Clone, Copy, PartialEq, Eq, Debug)]
 pub struct Outcome {
     pub answer: Answer,
     pub state: V830,
 }
 
 // Any call of the module, as the bench log names them.
-#[derive(Clone, Copy)]
+#[derive(Clone, Copy, PartialEq, Eq, Debug)]
 pub enum Call {
     Pulses(u32, u32),
     VetoLine(bool),
@@ -98,33 +98,32 @@ pub fn start(geo: u32, memory: &[u32]) -> Outcome
     ensures { result ≡ started geo (lent memory.now) }
 {
     if geo > 31 {
-        return refused(Refusal::Malformed, state::power_on(0, 0, 0));
+        return V830::power_on(0, 0, 0).refused(Refusal::Malformed);
     }
-    if memory.len() == 0 {
-        return refused(Refusal::WrongMemory, state::power_on(0, 0, 0));
+    if memory.len() == 0 || memory.len() > 32768 {
+        return V830::power_on(0, 0, 0).refused(Refusal::WrongMemory);
     }
-    if memory.len() > 32768 {
-        return refused(Refusal::WrongMemory, state::power_on(0, 0, 0));
-    }
-    done(0, state::power_on(0, geo, memory.len() as u32))
+    V830::power_on(0, geo, memory.len() as u32).done(0)
 }
 
-// A call that is refused: all stays as it was.
-fn refused(why: Refusal, state: V830) -> Outcome
-    ensures { result ≡ refused why state }
-{
-    Outcome {
-        answer: Err(why),
-        state,
+impl V830 {
+    // A call that is refused: all stays as it was.
+    fn refused(self, why: Refusal) -> Outcome
+        ensures { result ≡ refused why self }
+    {
+        Outcome {
+            answer: Err(why),
+            state: self,
+        }
     }
-}
 
-// A call that is done, with the value read.
-fn done(value: u32, state: V830) -> Outcome
-    ensures { result ≡ done value state }
-{
-    Outcome {
-        answer: Ok(value),
-        state,
+    // A call that is done, with the value read.
+    fn done(self, value: u32) -> Outcome
+        ensures { result ≡ done value self }
+    {
+        Outcome {
+            answer: Ok(value),
+            state: self,
+        }
     }
 }

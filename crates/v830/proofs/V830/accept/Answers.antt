@@ -9,7 +9,7 @@ use Rattle.layout.proofs.Lengths.{length_of}
 use Rattle.v830.specs.State.{settings}
 use Rattle.v830.proofs.Taking.{longest}
 use borrow.Author.Rules.{rules}
-use Rattle.v830.proofs.trigger.accept.Goals as goal
+use Rattle.v830.proofs.V830.accept.Goals as goal
 
 -- the event length as the code has it is at most 33
 event_fits : (s : Settings) (n : ℕ) → s.enable < 2 ^ 32 → event_length s ≡ n → n ≤ 33
@@ -17,16 +17,11 @@ event_fits s n h e = omega (arith, e, longest s h)
 
 pub slice_bounds-words-end : goal.slice_bounds-words-end
 slice_bounds-words-end c =
-    let e = length_of (settings c.args.s) (rw c.settings.ensures at c.event_length-event.ensures) in
-    omega (arith, event_fits (settings c.args.s) _ (search rules) e)
+    let e = length_of (settings c.args.self) (rw c.settings.ensures at c.event_length-length.ensures) in
+    omega (arith, event_fits (settings c.args.self) _ (search rules) e)
 
 pub slice_bounds-put-end : goal.slice_bounds-put-end
 slice_bounds-put-end c =
-    let e = length_of (settings c.args.s) (rw c.settings.ensures at c.event_length-event.ensures) in
-    let f = event_fits (settings c.args.s) _ (search rules) e in
-    sym (length-take-le c.event_length-event.result.0 c.words_of-words.result (omega (arith, f)))
-
-pub returns : goal.returns
-returns c =
-    let e = length_of (settings c.args.s) (rw c.settings.ensures at c.event_length-event.ensures) in
-    rw (← c.words_of-words.ensures, e, ← c.put-after.ensures.0, ← c.counted.ensures) (c.done.ensures, c.put-after.ensures.1)
+    let e = length_of (settings c.args.self) (rw c.settings.ensures at c.event_length-length.ensures) in
+    let f = event_fits (settings c.args.self) _ (search rules) e in
+    sym (length-take-le c.event_length-length.result.0 c.words_of-words.result (omega (arith, f)))
