@@ -17,11 +17,11 @@ event_fits s n h e = omega (arith, e, longest s h)
 
 pub slice_bounds-words-end : goal.slice_bounds-words-end
 slice_bounds-words-end c =
-    let e = length_of (settings c.args.self) (rw c.settings.ensures at c.event_length-length.ensures) in
+    let e = length_of (settings c.args.self) (rw c.settings.ensures at c.event_length-event.ensures) in
     omega (arith, event_fits (settings c.args.self) _ (search rules) e)
 
 pub slice_bounds-put-end : goal.slice_bounds-put-end
 slice_bounds-put-end c =
-    let e = length_of (settings c.args.self) (rw c.settings.ensures at c.event_length-length.ensures) in
+    let e = length_of (settings c.args.self) (rw c.settings.ensures at c.event_length-event.ensures) in
     let f = event_fits (settings c.args.self) _ (search rules) e in
-    sym (length-take-le c.event_length-length.result.0 c.words_of-words.result (omega (arith, f)))
+    sym (length-take-le c.event_length-event.result.0 c.words_of-words.result (omega (arith, f)))
