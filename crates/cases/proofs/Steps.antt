@@ -1,5 +1,5 @@
 -- The steps of a case that are left give what all of them give: one turn, and when they are over. Assumes nothing.
-use Rattle.std.proofs.Common.{◌≡◌, ℕ, suc, ◌+◌, ◌<◌, ◌≤◌, true, false, Option, Some, None, List, length, get_or, drop, add-one, drop_of_length-le, drop-cons, eq-eqb, ne_eqb}
+use Rattle.std.proofs.Common.{◌≡◌, ℕ, ◌+◌, ◌<◌, ◌≤◌, true, false, Option, Some, None, List, length, get_or, drop, add-one, drop_of_length-le, drop-cons, eq-eqb, ne_eqb}
 use Rattle.bus.specs.declared.Reply.{Reply}
 use Rattle.meb.specs.Ring.{Memory}
 use Rattle.cases.specs.declared.running.Bench.{Bench}

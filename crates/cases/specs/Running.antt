@@ -7,9 +7,8 @@ use Rattle.benchlog.specs.declared.Numeral.{Numeral}
 use Rattle.benchlog.specs.declared.Numeral.TheVariants.{Value, Refused}
 use Rattle.benchlog.specs.Faults.{fault_number}
 use Rattle.benchlog.specs.Number.{number_at}
-use Rattle.bus.specs.declared.Answer.{Answer}
 use Rattle.bus.specs.declared.Reply.{Reply}
-use Rattle.bus.specs.Answers.{reply_of, admitted}
+use Rattle.bus.specs.Answers.{Answer, reply_of, admitted}
 use Rattle.meb.specs.Ring.{Memory, lent}
 use Rattle.modules.specs.declared.Which.{Which}
 use Rattle.modules.specs.declared.Module.{Module}

@@ -56,7 +56,7 @@ impl Bench {
     fn admitted_by(&self, entry: Entry, answer: Answer) -> u32
         ensures { result ≡ admitted_by self.now entry answer }
     {
-        if bus::numbered(answer).number == 0 && !is_inhibited(self.held.module) {
+        if answer.is_ok() && !is_inhibited(self.held.module) {
             pulses_in(entry)
         } else {
             0
@@ -95,7 +95,7 @@ impl Bench {
 fn is_expected(line: Line, reply: Reply) -> bool
     ensures { result ≡ is_expected line reply }
 {
-    reply.number == line.expected.number && reply.value == line.expected.value
+    reply == line.expected
 }
 
 // The values of a start: those that are given, and zeros behind them.
