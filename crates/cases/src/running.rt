@@ -2,26 +2,19 @@
 ghost use Rattle.std.specs.Prelude.{◌≡◌};
 ghost use Rattle.benchlog.specs.Number.{number_at};
 ghost use Rattle.meb.specs.Ring.{lent};
-ghost use Rattle.cases.specs.Running.{reply_of_numeral, inhibits, pulses_in, admitted_by, turned, memory_left, is_expected, wrong_with, wrong_in};
-ghost use Rattle.cases.specs.declared.Step.TheVariants.{Gives, Reads};
+ghost use Rattle.cases.specs.Running.{reply_of_numeral, inhibits, pulses_in, admitted_by, replied, after_step, memory_left, filled, seen, is_expected, wrong_with, wrong_in};
+ghost use Rattle.cases.specs.declared.Step.TheVariants.{Gives};
 
 use crate::{Case, Line, Step};
 use benchlog::{Entry, Numeral};
 use bus::{Answer, Reply};
-use modules::{Held, Which};
+use modules::{Held, Module};
 
 // The module, and the pulses admitted to it.
 #[derive(Clone, Copy)]
 struct Bench {
     held: Held,
     pulses: u32,
-}
-
-// What a step gives: the answer, and the bench after it.
-#[derive(Clone, Copy)]
-struct Turned {
-    reply: Reply,
-    bench: Bench,
 }
 
 // The answer of the log reader.
@@ -38,17 +31,13 @@ fn reply_of_numeral(numeral: Numeral) -> Reply
 }
 
 // Whether the module admits no pulse.
-fn is_inhibited(h: Held) -> bool
-    ensures { result ≡ inhibits h.which h }
+fn is_inhibited(m: Module) -> bool
+    ensures { result ≡ inhibits m }
 {
-    let which = h.which;
-    let v260 = h.v260;
-    let v560 = h.v560;
-    let v830 = h.v830;
-    match which {
-        Which::V260 => v260.scales.is_inhibited(),
-        Which::V560 => v560.scales.is_inhibited(),
-        Which::V830 => v830.veto,
+    match m {
+        Module::V260(s, _) => s.scales.is_inhibited(),
+        Module::V560(s, _) => s.scales.is_inhibited(),
+        Module::V830(s) => s.veto,
     }
 }
 
@@ -58,52 +47,46 @@ fn pulses_in(entry: Entry) -> u32
 {
     match entry {
         Entry::Pulse(_, n) => n,
-        Entry::Veto(_) => 0,
-        Entry::Test => 0,
-        Entry::Clear => 0,
-        Entry::Trigger => 0,
-        Entry::Read(_, _) => 0,
-        Entry::Write(_, _, _) => 0,
-        Entry::ManClr => 0,
+        _ => 0,
     }
 }
 
-// Those of them that are admitted.
-fn admitted_by(b: Bench, entry: Entry, answer: Answer) -> u32
-    ensures { result ≡ admitted_by b entry answer }
-{
-    let held = b.held;
-    let reply = bus::numbered(answer);
-    if reply.number == 0 && !is_inhibited(held) {
-        pulses_in(entry)
-    } else {
-        0
+impl Bench {
+    // Those of them that are admitted.
+    fn admitted_by(&self, entry: Entry, answer: Answer) -> u32
+        ensures { result ≡ admitted_by self.now entry answer }
+    {
+        if answer.is_ok() && !is_inhibited(self.held.module) {
+            pulses_in(entry)
+        } else {
+            0
+        }
     }
-}
 
-// An entry given to the module.
-fn give(b: Bench, memory: &mut [u32], entry: Entry) -> Turned
-    ensures { (result ≡ turned b (lent memory.old) (Gives entry)) × (memory.new ≡ (memory_left b (lent memory.old) (Gives entry)).words) }
-{
-    let before = b.held;
-    let held = modules::act(before, memory, entry);
-    let answer = held.answer;
-    let reply = bus::numbered(answer);
-    let pulses = std::num::wrapping_add_u32(b.pulses, admitted_by(b, entry, answer));
-    let bench = Bench { held, pulses };
-    Turned { reply, bench }
-}
+    // An entry given to the module.
+    fn give(&mut self, memory: &mut [u32], entry: Entry) -> Reply
+        ensures reply { result ≡ replied self.old (lent memory.old) (Gives entry) }
+        ensures after { self.new ≡ after_step self.old (lent memory.old) (Gives entry) }
+        ensures left { memory.new ≡ (memory_left self.old (lent memory.old) (Gives entry)).words }
+    {
+        let held = modules::act(self.held, memory, entry);
+        let admitted = self.admitted_by(entry, held.answer);
+        *self = Bench {
+            held,
+            pulses: self.pulses.wrapping_add(admitted),
+        };
+        bus::numbered(held.answer)
+    }
 
-// A step of a case.
-fn turn(b: Bench, memory: &mut [u32], step: Step) -> Turned
-    ensures { (result ≡ turned b (lent memory.old) step) × (memory.new ≡ (memory_left b (lent memory.old) step).words) }
-{
-    match step {
-        Step::Gives(entry) => give(b, memory, entry),
-        Step::Reads(first, second, third, fourth, fifth) => {
-            let bytes = [first, second, third, fourth, fifth];
-            let reply = reply_of_numeral(benchlog::read_number(&bytes, 0));
-            Turned { reply, bench: b }
+    // A step of a case.
+    fn turn(&mut self, memory: &mut [u32], step: Step) -> Reply
+        ensures reply { result ≡ replied self.old (lent memory.old) step }
+        ensures after { self.new ≡ after_step self.old (lent memory.old) step }
+        ensures left { memory.new ≡ (memory_left self.old (lent memory.old) step).words }
+    {
+        match step {
+            Step::Gives(entry) => self.give(memory, entry),
+            Step::Reads(bytes) => reply_of_numeral(benchlog::read_number(&bytes, 0)),
         }
     }
 }
@@ -112,40 +95,43 @@ fn turn(b: Bench, memory: &mut [u32], step: Step) -> Turned
 fn is_expected(line: Line, reply: Reply) -> bool
     ensures { result ≡ is_expected line reply }
 {
-    reply.number == line.1 && reply.value == line.2
+    reply == line.expected
 }
 
-// The number of the first step that is wrong, 0 if none, with this memory lent.
-fn first_wrong(c: Case, memory: &mut [u32]) -> usize
-    ensures { result ≡ wrong_with c (lent memory.old) }
+// The values of a start: those that are given, and zeros behind them.
+fn filled(start: &[u32]) -> [u32; 40]
+    ensures { result ≡ filled start.now }
 {
-    let start = c.start;
-    let lines = c.lines;
-    let which = c.which;
-    let held = modules::begin(which, start, memory);
+    let mut values = [0u32; 40];
+    let given = start.len().min(40);
+    values[..given].copy_from_slice(&start[..given]);
+    values
+}
+
+// The number of the first step that is wrong, if one is, with this memory lent.
+fn first_wrong(c: Case, memory: &mut [u32]) -> Option<usize>
+    ensures { result ≡ wrong_with (seen c) (lent memory.old) }
+{
+    let held = modules::begin(c.which, filled(c.start), memory);
     let mut b = Bench { held, pulses: 0 };
-    let mut k: usize = 0;
-    while k < c.many && k < 10 {
-        let line = lines[k];
-        let step = line.0;
-        let t = turn(b, memory, step);
-        let reply = t.reply;
-        if !is_expected(line, reply) {
-            return k + 1;
+    for (k, line) in c.lines.iter().enumerate() {
+        let reply = b.turn(memory, line.step);
+        if !is_expected(*line, reply) {
+            return Some(k + 1);
         }
-        b = t.bench;
-        k += 1;
     }
-    if b.pulses == c.pulses { 0 } else { k + 1 }
+    if b.pulses == c.pulses {
+        None
+    } else {
+        Some(c.lines.len() + 1)
+    }
 }
 
-// The number of the first step of a case that is wrong, 0 if none.
-pub(crate) fn wrong_in(c: Case) -> usize
-    ensures { result ≡ wrong_in c }
+// The number of the first step of a case that is wrong, if one is.
+pub(crate) fn wrong_in(c: Case) -> Option<usize>
+    ensures { result ≡ wrong_in (seen c) }
 {
-    let start = c.start;
     let mut memory = [0u32; 66];
-    let which = c.which;
-    let end = modules::lent(which, start, 66);
+    let end = modules::lent(c.which, filled(c.start), 66);
     first_wrong(c, &mut memory[..end])
 }

@@ -13,8 +13,8 @@ use Rattle.v560.specs.Calls as v560
 use Rattle.v830.specs.declared.Outcome as o830
 use Rattle.v830.specs.Calls as v830
 use Rattle.modules.specs.declared.Held.{Held}
-use Rattle.modules.specs.declared.Which.{Which}
-use Rattle.modules.specs.declared.Which.TheVariants as which
+use Rattle.modules.specs.declared.Module.{Module}
+use Rattle.modules.specs.declared.Module.TheVariants as held
 
 -- "A pulse entry gives that many pulses to that channel, a veto entry sets the front veto line, kinds 2, 3 and 7 are
 -- TEST, the CLEAR line and MAN CLR, kinds 5 and 6 are accesses."; what it asks of a V830 is call830_of
@@ -28,34 +28,31 @@ call_of (entry.Read offset width) = call.Access (access_for false offset width 0
 call_of (entry.Write offset width word) = call.Access (access_for true offset width word)
 call_of entry.ManClr = call.ManClr
 
--- the answer's number and value, "and what the module holds after it"; the other two stand still
-abbrev pub after260 : Held → o260.Outcome → Held
-after260 t o =
-    record { which = which.V260; answer = o.answer; v260 = o.state; v560 = t.v560; v830 = t.v830; interrupter = o.interrupter }
+-- the answer's number and value, "and what the module holds after it"
+abbrev pub after260 : o260.Outcome → Held
+after260 o = record { answer = o.answer; «module» = held.V260 o.state o.interrupter }
 
-abbrev pub after560 : Held → o560.Outcome → Held
-after560 t o =
-    record { which = which.V560; answer = o.answer; v260 = t.v260; v560 = o.state; v830 = t.v830; interrupter = o.interrupter }
+abbrev pub after560 : o560.Outcome → Held
+after560 o = record { answer = o.answer; «module» = held.V560 o.state o.interrupter }
 
 -- a V830 has no interrupter
-abbrev pub after830 : Held → o830.Outcome → Held
-after830 t o =
-    record { which = which.V830; answer = o.answer; v260 = t.v260; v560 = t.v560; v830 = o.state; interrupter = t.interrupter }
+abbrev pub after830 : o830.Outcome → Held
+after830 o = record { answer = o.answer; «module» = held.V830 o.state }
 
 -- the module after an entry
-abbrev pub acted_as : Which → Held → Memory → Entry → Held
-acted_as which.V260 t memory e = after260 t (v260.step_of t.v260 t.interrupter (call_of e))
-acted_as which.V560 t memory e = after560 t (v560.step_of t.v560 t.interrupter (call_of e))
-acted_as which.V830 t memory e = after830 t (v830.step_of t.v830 memory (call830_of e)).outcome
+abbrev pub acted_as : Module → Memory → Entry → Held
+acted_as (held.V260 s i) memory e = after260 (v260.step_of s i (call_of e))
+acted_as (held.V560 s i) memory e = after560 (v560.step_of s i (call_of e))
+acted_as (held.V830 s) memory e = after830 (v830.step_of s memory (call830_of e)).outcome
 
 abbrev pub acted : Held → Memory → Entry → Held
-acted t memory e = acted_as t.which t memory e
+acted t memory e = acted_as t.module memory e
 
 -- the memory after an entry: "Each access and each trigger of a V830 is lent all the words."
-abbrev pub memory_as : Which → Held → Memory → Entry → Memory
-memory_as which.V260 t memory e = memory
-memory_as which.V560 t memory e = memory
-memory_as which.V830 t memory e = (v830.step_of t.v830 memory (call830_of e)).memory
+abbrev pub memory_as : Module → Memory → Entry → Memory
+memory_as (held.V260 s i) memory e = memory
+memory_as (held.V560 s i) memory e = memory
+memory_as (held.V830 s) memory e = (v830.step_of s memory (call830_of e)).memory
 
 abbrev pub memory_after : Held → Memory → Entry → Memory
-memory_after t memory e = memory_as t.which t memory e
+memory_after t memory e = memory_as t.module memory e

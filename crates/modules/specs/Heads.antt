@@ -1,8 +1,6 @@
 -- How a module is started from the values of a head; docs/FORMATS.md, `trace`. Assumes nothing.
-use Rattle.std.specs.Prelude.{ℕ, ◌/◌, ◌%◌, ◌^◌, cond, List, [], ◌∷◌, eqb, ltb, get_or, take, drop, replicate}
-use Rattle.bus.specs.declared.Answer.TheVariants.{Done}
-use Rattle.bus.specs.Interrupting.{power_on}
-use Rattle.meb.specs.Ring.{Memory, lent}
+use Rattle.std.specs.Prelude.{ℕ, ◌/◌, ◌%◌, ◌^◌, List, eqb, get_or, take, drop, min}
+use Rattle.meb.specs.Ring.{Memory}
 use Rattle.scaler.specs.Orders.{counting}
 use Rattle.v260.specs.declared.Outcome as o260
 use Rattle.v260.specs.declared.Switches.{Switches}
@@ -40,28 +38,15 @@ counted560 counts o =
 abbrev pub counted830 : List ℕ → o830.Outcome → o830.Outcome
 counted830 counts o = record { answer = o.answer; state = s830.counting counts o.state }
 
--- the three modules at rest, from which a start begins
-abbrev pub resting : Held
-resting =
-    record {
-      which = which.V260;
-      answer = Done 0;
-      v260 = (v260.start_of (switches_of (replicate 40 0)) 0).state;
-      v560 = (v560.started 0).state;
-      v830 = (v830.started 0 (lent (0 ∷ []))).state;
-      interrupter = power_on 0;
-    }
-
--- "The module is started with the switches of the head (a V830 with `geo` and the lent words)"; the other two stand
--- still
+-- "The module is started with the switches of the head (a V830 with `geo` and the lent words)"
 abbrev pub begun260 : List ℕ → Held
-begun260 values = after260 resting (counted260 (take 16 (drop 5 values)) (v260.start_of (switches_of values) (get_or values 4 0)))
+begun260 values = after260 (counted260 (take 16 (drop 5 values)) (v260.start_of (switches_of values) (get_or values 4 0)))
 
 abbrev pub begun560 : List ℕ → Held
-begun560 values = after560 resting (counted560 (take 16 (drop 2 values)) (v560.started (get_or values 1 0 % 2 ^ 8)))
+begun560 values = after560 (counted560 (take 16 (drop 2 values)) (v560.started (get_or values 1 0 % 2 ^ 8)))
 
 abbrev pub begun830 : List ℕ → Memory → Held
-begun830 values memory = after830 resting (counted830 (take 32 (drop 3 values)) (v830.started (get_or values 1 0) memory))
+begun830 values memory = after830 (counted830 (take 32 (drop 3 values)) (v830.started (get_or values 1 0) memory))
 
 -- the module that is named
 abbrev pub begun_of : Which → List ℕ → Memory → Held
@@ -69,12 +54,8 @@ begun_of which.V260 values memory = begun260 values
 begun_of which.V560 values memory = begun560 values
 begun_of which.V830 values memory = begun830 values memory
 
--- the lesser of two numbers
-abbrev pub at_most : ℕ → ℕ → ℕ
-at_most n most = cond (ltb most n) most n
-
 -- "`capacity` (0 to 40,000): how many words of event memory are lent to it", of so many that there are
 abbrev pub lent_of : Which → List ℕ → ℕ → ℕ
 lent_of which.V260 values most = 0
 lent_of which.V560 values most = 0
-lent_of which.V830 values most = at_most (get_or values 2 0) most
+lent_of which.V830 values most = min (get_or values 2 0) most

@@ -3,16 +3,14 @@
 // The three modules as one: whichever a head names, started, and what an entry of the log does to it.
 ghost use Rattle.std.specs.Prelude.{◌≡◌, ◌+◌, ◌≤◌, length, take, drop};
 ghost use Rattle.meb.specs.Ring.{lent};
-ghost use Rattle.v260.specs.Calls as v260;
-ghost use Rattle.v560.specs.Calls as v560;
-ghost use Rattle.modules.specs.Entries.{call_of, after260, after560, after830, acted, memory_after};
-ghost use Rattle.modules.specs.Heads.{switches_of, resting, begun260, begun560, begun830, begun_of, lent_of, at_most};
+ghost use Rattle.modules.specs.Entries.{call_of, acted, memory_after};
+ghost use Rattle.modules.specs.Heads.{switches_of, begun260, begun560, begun830, begun_of, lent_of};
 
 use benchlog::Entry;
 use bus::Answer;
 use bus::interrupter::Interrupter;
 use logged::{access_for, call_830_of};
-use scaler::Call;
+use scaler::{Call, Scales};
 use v260::{Switches, V260};
 use v560::V560;
 use v830::V830;
@@ -25,15 +23,19 @@ pub enum Which {
     V830,
 }
 
-// A module, with the answer of its last call and its interrupter; the other two stand still.
+// The module that there is; the two scalers have an interrupter beside them, a V830 has none.
+#[derive(Clone, Copy)]
+pub enum Module {
+    V260(V260, Interrupter),
+    V560(V560, Interrupter),
+    V830(V830),
+}
+
+// A module, with the answer of its last call.
 #[derive(Clone, Copy)]
 pub struct Held {
-    pub which: Which,
     pub answer: Answer,
-    pub v260: V260,
-    pub v560: V560,
-    pub v830: V830,
-    pub interrupter: Interrupter,
+    pub module: Module,
 }
 
 // The call of a V260 or a V560 that an entry of the log makes.
@@ -56,111 +58,39 @@ fn call_of(entry: Entry) -> Call
 pub fn act(t: Held, memory: &mut [u32], entry: Entry) -> Held
     ensures { (result ≡ acted t (lent memory.old) entry) × (memory.new ≡ (memory_after t (lent memory.old) entry).words) }
 {
-    let which = t.which;
-    let v260 = t.v260;
-    let v560 = t.v560;
-    let v830 = t.v830;
-    let i = t.interrupter;
-    match which {
-        Which::V260 => after_260(t, lend_260(v260, i, call_of(entry))),
-        Which::V560 => after_560(t, lend_560(v560, i, call_of(entry))),
-        Which::V830 => after_830(t, v830::step(v830, memory, call_830_of(entry))),
+    match t.module {
+        Module::V260(s, mut i) => {
+            let o = v260::in_place::step(s, &mut i, call_of(entry));
+            Held {
+                answer: o.answer,
+                module: Module::V260(o.state, i),
+            }
+        }
+        Module::V560(s, mut i) => {
+            let o = v560::in_place::step(s, &mut i, call_of(entry));
+            Held {
+                answer: o.answer,
+                module: Module::V560(o.state, i),
+            }
+        }
+        Module::V830(s) => {
+            let o = v830::step(s, memory, call_830_of(entry));
+            Held {
+                answer: o.answer,
+                module: Module::V830(o.state),
+            }
+        }
     }
 }
 
-// A call of the V260, to which the interrupter is lent.
-fn lend_260(s: V260, i: Interrupter, call: Call) -> v260::Outcome
-    ensures { result ≡ v260.step_of s i call }
+// So many counts of a head's values, from a place on.
+fn counts_of<const N: usize>(values: [u32; 40], from: usize) -> [u32; N]
+    requires { from + N ≤ 40 }
+    ensures { result ≡ take N (drop from values) }
 {
-    let mut j = i;
-    let l = v260::in_place::step(s, &mut j, call);
-    v260::Outcome {
-        answer: l.answer,
-        state: l.state,
-        interrupter: j,
-    }
-}
-
-// A call of the V560, likewise.
-fn lend_560(s: V560, i: Interrupter, call: Call) -> v560::Outcome
-    ensures { result ≡ v560.step_of s i call }
-{
-    let mut j = i;
-    let l = v560::in_place::step(s, &mut j, call);
-    v560::Outcome {
-        answer: l.answer,
-        state: l.state,
-        interrupter: j,
-    }
-}
-
-// What a call of the V260 leaves; the other two stand still.
-fn after_260(t: Held, o: v260::Outcome) -> Held
-    ensures { result ≡ after260 t o }
-{
-    let answer = o.answer;
-    let v260 = o.state;
-    let v560 = t.v560;
-    let v830 = t.v830;
-    let interrupter = o.interrupter;
-    Held {
-        which: Which::V260,
-        answer,
-        v260,
-        v560,
-        v830,
-        interrupter,
-    }
-}
-
-// What a call of the V560 leaves, likewise.
-fn after_560(t: Held, o: v560::Outcome) -> Held
-    ensures { result ≡ after560 t o }
-{
-    let answer = o.answer;
-    let v260 = t.v260;
-    let v560 = o.state;
-    let v830 = t.v830;
-    let interrupter = o.interrupter;
-    Held {
-        which: Which::V560,
-        answer,
-        v260,
-        v560,
-        v830,
-        interrupter,
-    }
-}
-
-// What a call of the V830 leaves, likewise; it has no interrupter.
-fn after_830(t: Held, o: v830::Outcome) -> Held
-    ensures { result ≡ after830 t o }
-{
-    let answer = o.answer;
-    let v260 = t.v260;
-    let v560 = t.v560;
-    let v830 = o.state;
-    let interrupter = t.interrupter;
-    Held {
-        which: Which::V830,
-        answer,
-        v260,
-        v560,
-        v830,
-        interrupter,
-    }
-}
-
-// Fills the lent counts with a head's values, from a place on.
-fn copy_from(values: [u32; 40], from: usize, counts: &mut [u32])
-    requires { from + length counts.old ≤ 40 }
-    ensures { counts.new ≡ take (length counts.old) (drop from values) }
-{
-    let mut k: usize = 0;
-    while k < counts.len() {
-        counts[k] = values[from + k];
-        k += 1;
-    }
+    let mut counts = [0u32; N];
+    counts.copy_from_slice(&values[from..from + N]);
+    counts
 }
 
 // The switches of a V260's head.
@@ -175,68 +105,51 @@ fn switches_of(values: [u32; 40]) -> Switches
     }
 }
 
-// The three modules at rest, from which a start begins.
-fn resting() -> Held
-    ensures { result ≡ resting }
-{
-    let a = v260::start(switches_of([0; 40]), 0);
-    let v260 = a.state;
-    let b = v560::start(0);
-    let v560 = b.state;
-    let memory = [0u32; 1];
-    let c = v830::start(0, &memory);
-    let v830 = c.state;
-    Held {
-        which: Which::V260,
-        answer: Answer::Done(0),
-        v260,
-        v560,
-        v830,
-        interrupter: Interrupter::power_on(0),
-    }
-}
-
 // A V260 that is started with the switches of a head, and then given its counts.
 fn begin_260(values: [u32; 40]) -> Held
     ensures { result ≡ begun260 values }
 {
-    let mut o = v260::start(switches_of(values), values[4]);
-    let mut state = o.state;
-    let mut scales = state.scales;
-    let mut counts = [0u32; 16];
-    copy_from(values, 5, &mut counts);
-    scales.counts = counts;
-    state.scales = scales;
-    o.state = state;
-    after_260(resting(), o)
+    let o = v260::start(switches_of(values), values[4]);
+    let scales = Scales {
+        counts: counts_of(values, 5),
+        ..o.state.scales
+    };
+    let state = V260 { scales, ..o.state };
+    Held {
+        answer: o.answer,
+        module: Module::V260(state, o.interrupter),
+    }
 }
 
 // A V560, likewise.
 fn begin_560(values: [u32; 40]) -> Held
     ensures { result ≡ begun560 values }
 {
-    let mut o = v560::start((values[1] % 256) as u8);
-    let mut state = o.state;
-    let mut scales = state.scales;
-    let mut counts = [0u32; 16];
-    copy_from(values, 2, &mut counts);
-    scales.counts = counts;
-    state.scales = scales;
-    o.state = state;
-    after_560(resting(), o)
+    let o = v560::start((values[1] % 256) as u8);
+    let scales = Scales {
+        counts: counts_of(values, 2),
+        ..o.state.scales
+    };
+    let state = V560 { scales, ..o.state };
+    Held {
+        answer: o.answer,
+        module: Module::V560(state, o.interrupter),
+    }
 }
 
 // A V830, likewise, with the memory that is lent to it.
 fn begin_830(values: [u32; 40], memory: &[u32]) -> Held
     ensures { result ≡ begun830 values (lent memory.now) }
 {
-    let mut o = v830::start(values[1], memory);
-    let mut state = o.state;
-    let mut counts = [0u32; 32];
-    copy_from(values, 3, &mut counts);
-    state.counts = counts;
-    o.state = state;
-    after_830(resting(), o)
+    let o = v830::start(values[1], memory);
+    let state = V830 {
+        counts: counts_of(values, 3),
+        ..o.state
+    };
+    Held {
+        answer: o.answer,
+        module: Module::V830(state),
+    }
 }
 
 // The module that is named, started with the values of its head and the memory that is lent to it.
@@ -255,15 +168,7 @@ pub fn lent(which: Which, values: [u32; 40], most: usize) -> usize
     ensures { (result ≡ lent_of which values most) × (result ≤ most) }
 {
     match which {
-        Which::V260 => 0,
-        Which::V560 => 0,
-        Which::V830 => at_most(values[2] as usize, most),
+        Which::V260 | Which::V560 => 0,
+        Which::V830 => most.min(values[2] as usize),
     }
-}
-
-// The lesser of two numbers.
-fn at_most(n: usize, most: usize) -> usize
-    ensures { (result ≡ at_most n most) × (result ≤ most) }
-{
-    if n > most { most } else { n }
 }

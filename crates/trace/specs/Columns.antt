@@ -1,12 +1,11 @@
 -- The numbers of a line; docs/FORMATS.md, `trace`: "Line 1 names the columns". Assumes nothing.
 use Rattle.std.specs.Prelude.{ℕ, Bool, true, false, List, [], ◌∷◌, ◌++◌}
-use Rattle.bus.specs.declared.Answer.{Answer}
 use Rattle.bus.specs.declared.interrupter.Interrupter.{Interrupter}
-use Rattle.bus.specs.Answers.{number_of, value_of}
+use Rattle.bus.specs.Answers.{Answer, number_of, value_of}
 use Rattle.scaler.specs.declared.Scales.{Scales}
+use Rattle.v260.specs.declared.V260.{V260}
 use Rattle.v560.specs.declared.V560.{V560}
 use Rattle.v830.specs.declared.V830.{V830}
-use Rattle.modules.specs.declared.Held.{Held}
 
 -- "What is on or off is 1 or 0."
 abbrev pub one_or_zero : Bool → ℕ
@@ -25,16 +24,14 @@ abbrev pub own_of : V560 → List ℕ
 own_of s = s.sections ∷ one_or_zero s.latch ∷ []
 
 -- `entry answer .. vme c0 .. c15 l0 .. l15`
-abbrev pub numbers260 : ℕ → Held → List ℕ
-numbers260 entry t =
-    let s : Scales = t.v260.scales in
-    (entry ∷ first_of t.answer t.interrupter s) ++ s.counts ++ s.latches
+abbrev pub numbers260 : ℕ → Answer → V260 → Interrupter → List ℕ
+numbers260 entry answer s i =
+    (entry ∷ first_of answer i s.scales) ++ s.scales.counts ++ s.scales.latches
 
 -- `entry answer .. vme sections latch c0 .. c15 l0 .. l15`
-abbrev pub numbers560 : ℕ → Held → List ℕ
-numbers560 entry t =
-    let s : Scales = t.v560.scales in
-    (entry ∷ first_of t.answer t.interrupter s) ++ own_of t.v560 ++ s.counts ++ s.latches
+abbrev pub numbers560 : ℕ → Answer → V560 → Interrupter → List ℕ
+numbers560 entry answer s i =
+    (entry ∷ first_of answer i s.scales) ++ own_of s ++ s.scales.counts ++ s.scales.latches
 
 -- `answer value geo control enable triggers veto capacity first stored`
 abbrev pub first_of830 : Answer → V830 → List ℕ
@@ -44,5 +41,5 @@ first_of830 answer s =
     ∷ s.store.capacity.0 ∷ s.store.first ∷ s.store.stored.0 ∷ []
 
 -- `entry answer .. stored c0 .. c31`
-abbrev pub numbers830 : ℕ → Held → List ℕ
-numbers830 entry t = (entry ∷ first_of830 t.answer t.v830) ++ t.v830.counts
+abbrev pub numbers830 : ℕ → Answer → V830 → List ℕ
+numbers830 entry answer s = (entry ∷ first_of830 answer s) ++ s.counts

@@ -1,85 +1,36 @@
 // The numbers of a line: everything that the module holds.
-ghost use Rattle.std.specs.Prelude.{◌≡◌, ◌+◌, ◌≤◌, ◌++◌, length};
-ghost use Rattle.text.specs.Text.{put};
-ghost use Rattle.trace.specs.Columns.{one_or_zero, first_of, first_of830, numbers260, numbers560, numbers830};
+ghost use Rattle.std.specs.Prelude.{◌≡◌, ◌+◌, ◌∷◌, ◌++◌};
+ghost use Rattle.trace.specs.Columns.{first_of, own_of, first_of830, numbers260, numbers560, numbers830};
 
 use bus::Answer;
 use bus::interrupter::Interrupter;
-use modules::Held;
 use scaler::Scales;
+use v260::V260;
+use v560::V560;
 use v830::V830;
-
-// What is on or off, as a number.
-fn one_or_zero(on: bool) -> u32
-    ensures { result ≡ one_or_zero on }
-{
-    if on { 1 } else { 0 }
-}
 
 // The columns that a V260 and a V560 have before the counts, after the entry's number.
 fn first_words(answer: Answer, i: Interrupter, s: Scales) -> [u32; 8]
     ensures { result ≡ first_of answer i s }
 {
     let reply = bus::numbered(answer);
-    let enabled = one_or_zero(i.enabled);
-    let requested = one_or_zero(i.requested);
-    let line = one_or_zero(s.line);
-    let vme = one_or_zero(s.vme);
     [
         reply.number,
         reply.value,
-        enabled,
-        requested,
+        u32::from(i.enabled),
+        u32::from(i.requested),
         i.level,
-        i.vector as u32,
-        line,
-        vme,
+        u32::from(i.vector),
+        u32::from(s.line),
+        u32::from(s.vme),
     ]
 }
 
-// Puts the counts and the latches, where there is room for them.
-fn put_scales(numbers: &mut [u64], at: usize, s: Scales)
-    requires { at + 32 ≤ length numbers.old }
-    ensures { (numbers.new ≡ put numbers.old at (s.counts ++ s.latches)) × (length (s.counts ++ s.latches) ≡ 32) }
+// A V560's own columns, behind those.
+fn own_words(v: V560) -> [u32; 2]
+    ensures { result ≡ own_of v }
 {
-    let counts = s.counts;
-    let latches = s.latches;
-    let next = text::put_words(numbers, at, &counts);
-    text::put_words(numbers, next, &latches);
-}
-
-// The numbers of a V260's line.
-pub(crate) fn numbers_260(entry: u64, t: Held) -> [u64; 41]
-    ensures { result ≡ numbers260 entry t }
-{
-    let answer = t.answer;
-    let interrupter = t.interrupter;
-    let v = t.v260;
-    let s = v.scales;
-    let words = first_words(answer, interrupter, s);
-    let mut numbers = [0u64; 41];
-    numbers[0] = entry;
-    text::put_words(&mut numbers, 1, &words);
-    put_scales(&mut numbers, 9, s);
-    numbers
-}
-
-// The numbers of a V560's line.
-pub(crate) fn numbers_560(entry: u64, t: Held) -> [u64; 43]
-    ensures { result ≡ numbers560 entry t }
-{
-    let answer = t.answer;
-    let interrupter = t.interrupter;
-    let v = t.v560;
-    let s = v.scales;
-    let words = first_words(answer, interrupter, s);
-    let own = [v.sections as u32, one_or_zero(v.latch)];
-    let mut numbers = [0u64; 43];
-    numbers[0] = entry;
-    text::put_words(&mut numbers, 1, &words);
-    text::put_words(&mut numbers, 9, &own);
-    put_scales(&mut numbers, 11, s);
-    numbers
+    [u32::from(v.sections), u32::from(v.latch)]
 }
 
 // The columns of a V830 before the counts, after the entry's number.
@@ -87,35 +38,65 @@ fn first_words_830(answer: Answer, v: V830) -> [u32; 10]
     ensures { result ≡ first_of830 answer v }
 {
     let reply = bus::numbered(answer);
-    let veto = one_or_zero(v.veto);
-    let store = v.store;
-    let capacity = store.capacity;
-    let stored = store.stored;
     [
         reply.number,
         reply.value,
         v.geo,
-        v.control as u32,
+        u32::from(v.control),
         v.enable,
         v.tallies.triggers,
-        veto,
-        capacity.0,
-        store.first,
-        stored.0,
+        u32::from(v.veto),
+        v.store.capacity.0,
+        v.store.first,
+        v.store.stored.0,
     ]
 }
 
-// The numbers of a V830's line.
-pub(crate) fn numbers_830(entry: u64, t: Held) -> [u64; 43]
-    ensures { result ≡ numbers830 entry t }
+// The numbers of a line: the entry's, the first words, a module's own ones, and two rows of counts.
+fn numbers<const W: usize, const O: usize, const C: usize, const L: usize, const N: usize>(
+    entry: u64,
+    first: [u32; W],
+    own: [u32; O],
+    counts: [u32; C],
+    latches: [u32; L],
+) -> [u64; N]
+    requires { 1 + W + O + C + L ≡ N }
+    ensures { result ≡ (entry ∷ first.entry) ++ own.entry ++ counts.entry ++ latches.entry }
 {
-    let answer = t.answer;
-    let v = t.v830;
-    let words = first_words_830(answer, v);
-    let counts = v.counts;
-    let mut numbers = [0u64; 43];
+    let mut numbers = [0u64; N];
     numbers[0] = entry;
-    text::put_words(&mut numbers, 1, &words);
-    text::put_words(&mut numbers, 11, &counts);
+    let at = text::put_words(&mut numbers, 1, &first);
+    let at = text::put_words(&mut numbers, at, &own);
+    let at = text::put_words(&mut numbers, at, &counts);
+    text::put_words(&mut numbers, at, &latches);
     numbers
+}
+
+// The numbers of a V260's line.
+pub(crate) fn numbers_260(entry: u64, answer: Answer, v: V260, i: Interrupter) -> [u64; 41]
+    ensures { result ≡ numbers260 entry answer v i }
+{
+    let s = v.scales;
+    numbers(entry, first_words(answer, i, s), [], s.counts, s.latches)
+}
+
+// The numbers of a V560's line.
+pub(crate) fn numbers_560(entry: u64, answer: Answer, v: V560, i: Interrupter) -> [u64; 43]
+    ensures { result ≡ numbers560 entry answer v i }
+{
+    let s = v.scales;
+    numbers(
+        entry,
+        first_words(answer, i, s),
+        own_words(v),
+        s.counts,
+        s.latches,
+    )
+}
+
+// The numbers of a V830's line.
+pub(crate) fn numbers_830(entry: u64, answer: Answer, v: V830) -> [u64; 43]
+    ensures { result ≡ numbers830 entry answer v }
+{
+    numbers(entry, first_words_830(answer, v), [], v.counts, [])
 }

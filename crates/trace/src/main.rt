@@ -8,7 +8,7 @@ ghost use Rattle.trace.specs.Start.{limits260, limits560, limits830, head_in, wh
 use benchlog::{Entry, Fault, Reading};
 use columns::{numbers_260, numbers_560, numbers_830};
 use head::Head;
-use modules::{Held, Which};
+use modules::{Held, Module, Which};
 use stdio::{Amiss, Listing};
 
 mod columns;
@@ -103,20 +103,14 @@ fn put_names(out: &mut [u8], which: Which) -> usize {
 
 // Puts the line of what the module holds after an entry.
 fn put_held(out: &mut [u8], room: usize, entry: u64, traced: Held) -> usize {
-    let which = traced.which;
-    match which {
-        Which::V260 => {
-            let numbers = numbers_260(entry, traced);
-            text::put_line(out, room, &numbers)
+    match traced.module {
+        Module::V260(v, i) => {
+            text::put_line(out, room, &numbers_260(entry, traced.answer, v, i))
         }
-        Which::V560 => {
-            let numbers = numbers_560(entry, traced);
-            text::put_line(out, room, &numbers)
+        Module::V560(v, i) => {
+            text::put_line(out, room, &numbers_560(entry, traced.answer, v, i))
         }
-        Which::V830 => {
-            let numbers = numbers_830(entry, traced);
-            text::put_line(out, room, &numbers)
-        }
+        Module::V830(v) => text::put_line(out, room, &numbers_830(entry, traced.answer, v)),
     }
 }
 
@@ -138,10 +132,8 @@ fn put_text(rt: &HostRuntime, out: &mut [u8], before: Listing, words: &[u8]) -> 
 // Puts the line of every lent word.
 fn put_memory(rt: &HostRuntime, out: &mut [u8], before: Listing, memory: &[u32]) -> Listing {
     let mut l = put_text(rt, out, before, b"memory");
-    let mut k: usize = 0;
-    while k < memory.len() {
-        l = put_word(rt, out, l, memory[k]);
-        k += 1;
+    for word in memory {
+        l = put_word(rt, out, l, *word);
     }
     put_text(rt, out, l, b"\n")
 }
@@ -152,8 +144,7 @@ fn put_last(rt: &HostRuntime, out: &mut [u8], l: Listing, which: Which, memory: 
         return l;
     }
     match which {
-        Which::V260 => l,
-        Which::V560 => l,
+        Which::V260 | Which::V560 => l,
         Which::V830 => put_memory(rt, out, l, memory),
     }
 }
@@ -235,8 +226,8 @@ fn list_entries(
     requires { first.have ≤ length buf.old }
 {
     let values = head.values;
-    let traced = modules::begin(which_of(values[0]), values, memory);
-    let which = traced.which;
+    let which = which_of(values[0]);
+    let traced = modules::begin(which, values, memory);
     let at = put_names(out, which);
     let mut l = first;
     l.used = head.after;
@@ -325,10 +316,8 @@ fn count_up(memory: &mut [u32])
     requires { length memory.old ≤ 40000 }
     ensures { memory.new ≡ up_from (length memory.old) 1 }
 {
-    let mut k: usize = 0;
-    while k < memory.len() {
-        memory[k] = (k + 1) as u32;
-        k += 1;
+    for (k, word) in memory.iter_mut().enumerate() {
+        *word = (k + 1) as u32;
     }
 }
 

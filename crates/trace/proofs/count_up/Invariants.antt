@@ -1,10 +1,7 @@
 -- The first k words are set; a turn sets one more. Assumes nothing.
-use Rattle.std.proofs.Common.{◌≡◌, ◌-◌, ◌≤◌, length, take}
+use Rattle.std.proofs.Common.{◌≡◌, ◌≤◌, length, take}
 use Rattle.head.specs.Heads.{up_from}
 use Rattle.trace.proofs.count_up.Given as goal
 
 abbrev pub invariant-loop-k : goal.invariant-loop-k
-invariant-loop-k l = (l.k ≤ length l.initial.memory) × (length l.memory ≡ length l.initial.memory) × (length l.initial.memory ≤ 40000) × (take l.k l.memory ≡ take l.k (up_from (length l.initial.memory) 1))
-
-abbrev pub decreases-loop-k : goal.decreases-loop-k
-decreases-loop-k l = length l.initial.memory - l.k
+invariant-loop-k l = (length l.initial.memory ≤ 40000) × (take l.k l.memory ≡ take l.k (up_from (length l.initial.memory) 1))
