@@ -37,10 +37,10 @@ fn put_case(rt: &HostRuntime, out: &mut [u8], before: Listing, number: usize, c:
     let case = number as u64;
     let wrong = wrong_in(c) as u64;
     let numbers = [case, c.line as u64, c.many as u64, wrong];
-    let mut l = stdio::make_room(rt, out, before, 84);
+    let mut l = before.make_room(rt, out, 84);
     l.at = text::put_line(out, l.at, &numbers);
     if wrong != 0 {
-        return stdio::stop(l, Amiss::Wrong(case, wrong));
+        return l.stop(Some(Amiss::Wrong(case, wrong)));
     }
     l
 }
@@ -48,13 +48,13 @@ fn put_case(rt: &HostRuntime, out: &mut [u8], before: Listing, number: usize, c:
 // The whole listing.
 fn run(rt: &HostRuntime, out: &mut [u8]) {
     let cases = marked();
-    let mut l = stdio::begin(text::put_text(out, 0, b"case line steps wrong\n"));
+    let mut l = Listing::begin(text::put_text(out, 0, b"case line steps wrong\n"));
     let mut k: usize = 0;
     while k < 9 {
         l = put_case(rt, out, l, k + 1, cases[k]);
         k += 1;
     }
-    stdio::close(rt, out, l);
+    l.close(rt, out);
 }
 
 // The buffer of the lines.

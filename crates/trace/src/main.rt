@@ -122,7 +122,7 @@ fn put_held(out: &mut [u8], room: usize, entry: u64, traced: Held) -> usize {
 
 // Puts a word of the memory after a blank.
 fn put_word(rt: &HostRuntime, out: &mut [u8], before: Listing, word: u32) -> Listing {
-    let mut l = stdio::make_room(rt, out, before, 11);
+    let mut l = before.make_room(rt, out, 11);
     let p = text::put_text(out, l.at, b" ");
     l.at = text::put_number(out, p, word as u64);
     l
@@ -130,7 +130,7 @@ fn put_word(rt: &HostRuntime, out: &mut [u8], before: Listing, word: u32) -> Lis
 
 // Puts a text.
 fn put_text(rt: &HostRuntime, out: &mut [u8], before: Listing, words: &[u8]) -> Listing {
-    let mut l = stdio::make_room(rt, out, before, words.len());
+    let mut l = before.make_room(rt, out, words.len());
     l.at = text::put_text(out, l.at, words);
     l
 }
@@ -160,11 +160,7 @@ fn put_last(rt: &HostRuntime, out: &mut [u8], l: Listing, which: Which, memory: 
 
 // Whether a read failed.
 fn is_cut(l: Listing) -> bool {
-    let amiss = l.amiss;
-    match amiss {
-        Amiss::Read(_) => true,
-        _ => false,
-    }
+    matches!(l.amiss, Some(Amiss::Read(_)))
 }
 
 // Gives the module an entry, shows what it holds then, and goes on behind it.
@@ -207,8 +203,7 @@ fn turn(
     requires { before.listing.have ≤ length buf.old }
     ensures { result.listing.have ≤ length buf.old }
 {
-    let listing = before.listing;
-    let l = stdio::make_room(rt, out, listing, 903);
+    let l = before.listing.make_room(rt, out, 903);
     let course = moved(before, l);
     let have = l.have;
     match benchlog::read_entry(&buf[..have], l.used) {
@@ -216,9 +211,9 @@ fn turn(
         Reading::Refused(fault, _) => {
             let number = benchlog::fault_number(fault);
             if !l.ended && number == benchlog::fault_number(Fault::Ends) {
-                return moved(course, stdio::read_on(rt, buf, stdio::flush(rt, out, l)));
+                return moved(course, l.flush(rt, out).read_on(rt, buf));
             }
-            moved(course, stdio::end(out, l, number))
+            moved(course, l.end(out, number))
         }
     }
 }
@@ -246,13 +241,13 @@ fn list_entries(
         traced,
         entries: 0,
     };
-    let mut turns = stdio::TURNS;
-    while turns > 0 && course.listing.more {
+    for _ in 0..stdio::TURNS {
+        if !course.listing.more {
+            break;
+        }
         course = turn(rt, buf, out, memory, course);
-        turns -= 1;
     }
-    let listed = course.listing;
-    put_last(rt, out, listed, which, memory)
+    put_last(rt, out, course.listing, which, memory)
 }
 
 // The module that a head names.
@@ -288,7 +283,7 @@ fn list(
         let end = modules::lent(which_of(values[0]), values, memory.len());
         return list_entries(rt, buf, out, &mut memory[..end], first, head);
     }
-    stdio::fault(out, first, head.answer)
+    first.fault(out, head.answer)
 }
 
 // Whether the bytes that are read end inside the head.
@@ -304,11 +299,12 @@ fn ends_in_head(buf: &[u8], l: Listing) -> bool
 fn begun(rt: &HostRuntime, buf: &mut [u8]) -> Listing
     ensures { result.have ≤ length buf.old }
 {
-    let mut l = stdio::begin(0);
-    let mut turns = stdio::TURNS;
-    while turns > 0 && l.more && !l.ended && ends_in_head(buf, l) {
-        l = stdio::read_on(rt, buf, l);
-        turns -= 1;
+    let mut l = Listing::begin(0);
+    for _ in 0..stdio::TURNS {
+        if !l.more || l.ended || !ends_in_head(buf, l) {
+            break;
+        }
+        l = l.read_on(rt, buf);
     }
     l
 }
@@ -317,7 +313,7 @@ fn begun(rt: &HostRuntime, buf: &mut [u8]) -> Listing
 fn run(rt: &HostRuntime, buf: &mut [u8], out: &mut [u8], memory: &mut [u32]) {
     let first = begun(rt, buf);
     let last = list(rt, buf, out, memory, first);
-    stdio::close(rt, out, last);
+    last.close(rt, out);
 }
 
 // Sets the words to 1, 2, 3 and so on.
