@@ -93,12 +93,12 @@ fn numbers_of(place: u64, reply: Reply, event: Event) -> [u64; 38]
 fn listed(out: &mut [u8], l: Listing, reply: Reply, event: Event, from: u64) -> Listing
     ensures { result.have ≡ l.have }
 {
-    let place = std::num::wrapping_sub_u64(stdio::place(l, l.used), from) / 4;
+    let place = std::num::wrapping_sub_u64(l.place(l.used), from) / 4;
     let numbers = numbers_of(place, reply, event);
     let mut after = l;
     after.at = text::put_line(out, l.at, &numbers);
     if reply.number != 0 {
-        return stdio::stop(after, Amiss::Refused(reply.number, place));
+        return after.stop(Some(Amiss::Refused(reply.number, place)));
     }
     after.used = behind(l.used, reply.value);
     after
@@ -122,18 +122,18 @@ fn turn(
     requires { before.have ≤ length buf.old }
     ensures { result.have ≤ length buf.old }
 {
-    let l = stdio::make_room(rt, out, before, 798);
+    let l = before.make_room(rt, out, 798);
     if unused(l) < 4 && l.ended {
-        return stdio::end(out, l, benchlog::fault_number(Fault::Ends));
+        return l.end(out, benchlog::fault_number(Fault::Ends));
     }
     if unused(l) < 4 {
-        return stdio::read_on(rt, buf, stdio::flush(rt, out, l));
+        return l.flush(rt, out).read_on(rt, buf);
     }
     let used = l.used;
     let have = l.have;
     let reading = event_in(settings, &buf[used..have]);
     if matches!(reading, Err(Refusal::WordsEnd)) && !l.ended {
-        return stdio::read_on(rt, buf, stdio::flush(rt, out, l));
+        return l.flush(rt, out).read_on(rt, buf);
     }
     let (reply, event) = shown(reading);
     listed(out, l, reply, event, from)
@@ -162,10 +162,11 @@ fn list_events(
     let mut l = first;
     l.used = head.after;
     l.at = at;
-    let mut turns = stdio::TURNS;
-    while turns > 0 && l.more {
+    for _ in 0..stdio::TURNS {
+        if !l.more {
+            break;
+        }
         l = turn(rt, buf, out, l, settings, head.after as u64);
-        turns -= 1;
     }
     l
 }
@@ -182,14 +183,14 @@ fn list(rt: &HostRuntime, buf: &mut [u8], out: &mut [u8], first: Listing) -> Lis
     if head.answer == 0 {
         return list_events(rt, buf, out, first, head);
     }
-    stdio::fault(out, first, head.answer)
+    first.fault(out, head.answer)
 }
 
 // The whole listing.
 fn run(rt: &HostRuntime, buf: &mut [u8], out: &mut [u8]) {
     let first = head::begin(rt, buf, &LIMITS);
     let last = list(rt, buf, out, first);
-    stdio::close(rt, out, last);
+    last.close(rt, out);
 }
 
 // The two buffers, of 64 KiB each.

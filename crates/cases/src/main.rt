@@ -38,23 +38,28 @@ pub(crate) struct Case {
 // Puts the line of a case; one that is wrong is what is amiss with the listing.
 fn put_case(rt: &HostRuntime, out: &mut [u8], before: Listing, number: usize, c: Case) -> Listing {
     let case = number as u64;
-    let wrong = wrong_in(c).map_or(0, |step| step as u64);
-    let numbers = [case, c.line as u64, c.lines.len() as u64, wrong];
-    let mut l = stdio::make_room(rt, out, before, 84);
+    let wrong = wrong_in(c).map(|step| step as u64);
+    let numbers = [
+        case,
+        u64::from(c.line),
+        c.lines.len() as u64,
+        wrong.unwrap_or(0),
+    ];
+    let mut l = before.make_room(rt, out, 84);
     l.at = text::put_line(out, l.at, &numbers);
-    if wrong != 0 {
-        return stdio::stop(l, Amiss::Wrong(case, wrong));
+    match wrong {
+        Some(step) => l.stop(Some(Amiss::Wrong(case, step))),
+        None => l,
     }
-    l
 }
 
 // The whole listing.
 fn run(rt: &HostRuntime, out: &mut [u8]) {
-    let mut l = stdio::begin(text::put_text(out, 0, b"case line steps wrong\n"));
+    let mut l = Listing::begin(text::put_text(out, 0, b"case line steps wrong\n"));
     for (k, c) in marked().iter().enumerate() {
         l = put_case(rt, out, l, k + 1, *c);
     }
-    stdio::close(rt, out, l);
+    l.close(rt, out);
 }
 
 // The buffer of the lines.

@@ -11,12 +11,12 @@ fn listed(out: &mut [u8], l: Listing, e: Fields) -> Listing
     ensures { result.have ≤ l.have }
 {
     let numbers = [
-        stdio::place(l, l.used),
+        l.place(l.used),
         e.kind as u64,
         e.first as u64,
         e.second as u64,
         e.third as u64,
-        stdio::place(l, e.place),
+        l.place(e.place),
     ];
     let mut after = l;
     after.at = text::put_line(out, l.at, &numbers);
@@ -29,28 +29,29 @@ fn turn(rt: &HostRuntime, buf: &mut [u8], out: &mut [u8], before: Listing) -> Li
     requires { before.have ≤ length buf.old }
     ensures { result.have ≤ length buf.old }
 {
-    let l = stdio::make_room(rt, out, before, 126);
+    let l = before.make_room(rt, out, 126);
     let have = l.have;
     let e = benchlog::numbers_of(benchlog::read_entry(&buf[..have], l.used));
     if e.answer == 0 {
         return listed(out, l, e);
     }
     if !l.ended && e.answer == benchlog::fault_number(Fault::Ends) {
-        return stdio::read_on(rt, buf, stdio::flush(rt, out, l));
+        return l.flush(rt, out).read_on(rt, buf);
     }
-    stdio::end(out, l, e.answer)
+    l.end(out, e.answer)
 }
 
 // The whole listing.
 fn run(rt: &HostRuntime, buf: &mut [u8], out: &mut [u8]) {
     let at = text::put_text(out, 0, b"place kind first second third next\n");
-    let mut l = stdio::begin(at);
-    let mut turns = stdio::TURNS;
-    while turns > 0 && l.more {
+    let mut l = Listing::begin(at);
+    for _ in 0..stdio::TURNS {
+        if !l.more {
+            break;
+        }
         l = turn(rt, buf, out, l);
-        turns -= 1;
     }
-    stdio::close(rt, out, l);
+    l.close(rt, out);
 }
 
 // The two buffers, of 64 KiB each.

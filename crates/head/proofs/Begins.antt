@@ -9,8 +9,8 @@ use native.Mathlib.Omega.{arith}
 use borrow.Author.Tests.{le-leb, eqb-false}
 use lib.Dec.{eqb}
 use lib.ListN.{length}
+use Rattle.std.specs.Prelude.{Option, None, Some}
 use Rattle.stdio.specs.declared.Amiss.{Amiss}
-use Rattle.stdio.specs.declared.Amiss.TheVariants.{Nothing, Fault, Refused, Wrong, Read, Write}
 use Rattle.stdio.specs.declared.Listing.{Listing}
 use Rattle.stdio.specs.declared.Window.{Window}
 use Rattle.stdio.specs.Listings.{is_well, Gone, ReadOn}
@@ -22,27 +22,19 @@ abbrev pub Grown : ℕ → ℕ → Listing → Type 0
 Grown n h r = (r ≡ unused r.have r.ended r.amiss) × (r.have ≤ n) × (h ≤ r.have) × (is_well r.amiss ≡ true → r.ended ≡ eqb r.have h)
 
 -- a read that did not fail
-well : (left : ℕ) (w : Window) (a : Amiss) → Left left w a → is_well a ≡ true → w.ended ≡ eqb w.have left
-well left w Nothing p e = p
-well left w (Read error) p e = absurd (false≢true e)
-well left w (Fault number place) p e = absurd p
-well left w (Refused number place) p e = absurd p
-well left w (Wrong number step) p e = absurd p
-well left w (Write error) p e = absurd p
+well : (left : ℕ) (w : Window) (a : Option Amiss) → Left left w a → is_well a ≡ true → w.ended ≡ eqb w.have left
+well left w None p e = p
+well left w (Some a) p e = absurd (false≢true e)
 
-grown : (before after : List ℕ) (h : ℕ) (t : Bool) (r : Listing) → h ≤ length before → Gone before (unused h t Nothing) after r → Grown (length before) h r
+grown : (before after : List ℕ) (h : ℕ) (t : Bool) (r : Listing) → h ≤ length before → Gone before (unused h t None) after r → Grown (length before) h r
 grown before after h t r l p =
     let q = rw (le-leb 0 h (omega arith), le-leb h (length before) l, sub-zero h) at p.0.1 in
     (p.1, p.0.0, q.0, well h (record { have = r.have; ended = r.ended; amiss = r.amiss }) r.amiss q.2)
 
 -- a listing that goes on has nothing amiss
-goes : (a : Amiss) (have : ℕ) (ended : Bool) → is_well a ≡ true → unused have ended a ≡ unused have ended Nothing
-goes Nothing have ended e = refl
-goes (Fault number place) have ended e = absurd (false≢true e)
-goes (Refused number place) have ended e = absurd (false≢true e)
-goes (Wrong number step) have ended e = absurd (false≢true e)
-goes (Read error) have ended e = absurd (false≢true e)
-goes (Write error) have ended e = absurd (false≢true e)
+goes : (a : Option Amiss) (have : ℕ) (ended : Bool) → is_well a ≡ true → unused have ended a ≡ unused have ended None
+goes None have ended e = refl
+goes (Some a) have ended e = absurd (false≢true e)
 
 pub grows : (before after : List ℕ) (l r : Listing) → l ≡ unused l.have l.ended l.amiss → l.more ≡ true → l.have ≤ length before
     → ReadOn before l after r → Grown (length before) l.have r

@@ -1,6 +1,6 @@
 -- A head of numbers; docs/FORMATS.md: "A number on standard input is a log number", and a head is refused for a fault
 -- "of its numbers" and for one outside its range, "each as soon as its number is read". Assumes nothing.
-use Rattle.std.specs.Prelude.{ℕ, zero, suc, ◌≤◌, Bool, true, false, List, [], ◌∷◌, ◌≡◌, eqb, length, set, take, replicate}
+use Rattle.std.specs.Prelude.{ℕ, zero, suc, ◌≤◌, Bool, true, false, Option, List, [], ◌∷◌, ◌≡◌, eqb, length, set, take, replicate}
 use Rattle.benchlog.specs.Entries.{argument_at}
 use Rattle.benchlog.specs.Faults.{fault_number}
 use Rattle.benchlog.specs.declared.Fault.TheVariants.{Ends}
@@ -39,7 +39,7 @@ abbrev pub is_cut : List ℕ → List ℕ → Bool
 is_cut log limits = eqb (head_of log (take 40 limits)).answer (fault_number Ends)
 
 -- a listing of which no byte of the input is used, and nothing is put out; it goes on unless a read failed
-abbrev pub unused : ℕ → Bool → Amiss → Listing
+abbrev pub unused : ℕ → Bool → Option Amiss → Listing
 unused have ended amiss = record { used = 0; have = have; ended = ended; base = 0; at = 0; more = is_well amiss; amiss = amiss }
 
 -- a listing that has begun: if it goes on, the bytes that are had, at the front of the buffer, end inside the head

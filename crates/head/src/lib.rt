@@ -55,9 +55,9 @@ fn refused(answer: u32) -> Head
 pub fn begin(rt: &HostRuntime, buf: &mut [u8], limits: &[u32]) -> Listing
     ensures { Begun buf.new limits.now result }
 {
-    let mut l = stdio::begin(0);
+    let mut l = Listing::begin(0);
     while l.more && !l.ended && is_cut(buf, l, limits) {
-        l = stdio::read_on(rt, buf, l);
+        l = l.read_on(rt, buf);
     }
     l
 }

@@ -95,7 +95,7 @@ fn put_call(rt: &HostRuntime, out: &mut [u8], before: Listing, e: Fields, n: Num
         n.value as u64,
         n.after as u64,
     ];
-    let mut l = stdio::make_room(rt, out, before, 189);
+    let mut l = before.make_room(rt, out, 189);
     l.at = text::put_line(out, l.at, &numbers);
     l
 }
@@ -133,9 +133,9 @@ fn turn(rt: &HostRuntime, buf: &mut [u8], out: &mut [u8], l: Listing) -> Listing
         return after;
     }
     if !l.ended && c.answer == benchlog::fault_number(Fault::Ends) {
-        return stdio::read_on(rt, buf, stdio::flush(rt, out, l));
+        return l.flush(rt, out).read_on(rt, buf);
     }
-    stdio::end(out, stdio::make_room(rt, out, l, 48), c.answer)
+    l.make_room(rt, out, 48).end(out, c.answer)
 }
 
 // The whole listing.
@@ -145,13 +145,14 @@ fn run(rt: &HostRuntime, buf: &mut [u8], out: &mut [u8]) {
         0,
         b"answer kind first second third place number value after\n",
     );
-    let mut l = stdio::begin(at);
-    let mut turns = stdio::TURNS;
-    while turns > 0 && l.more {
+    let mut l = Listing::begin(at);
+    for _ in 0..stdio::TURNS {
+        if !l.more {
+            break;
+        }
         l = turn(rt, buf, out, l);
-        turns -= 1;
     }
-    stdio::close(rt, out, l);
+    l.close(rt, out);
 }
 
 // The two buffers, of 64 KiB each.

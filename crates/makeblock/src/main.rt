@@ -95,7 +95,7 @@ fn put_block(out: &mut [u8], first: Listing, head: Head) -> Listing {
     let mut l = first;
     l.at = put_words(out, at, words, room);
     if reply.number != 0 {
-        return stdio::stop(l, Amiss::Refused(reply.number, 0));
+        return l.stop(Some(Amiss::Refused(reply.number, 0)));
     }
     l
 }
@@ -112,7 +112,7 @@ fn write(buf: &[u8], out: &mut [u8], first: Listing, limits: [u32; 39]) -> Listi
     if head.answer == 0 {
         return put_block(out, first, head);
     }
-    stdio::fault(out, first, head.answer)
+    first.fault(out, head.answer)
 }
 
 // What is written.
@@ -120,7 +120,7 @@ fn run(rt: &HostRuntime, buf: &mut [u8], out: &mut [u8]) {
     let limits = limits();
     let first = head::begin(rt, buf, &limits);
     let last = write(buf, out, first, limits);
-    stdio::close(rt, out, last);
+    last.close(rt, out);
 }
 
 // The two buffers, of 64 KiB each.

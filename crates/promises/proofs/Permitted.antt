@@ -96,12 +96,12 @@ use Rattle.text.proofs.figures.Reads as text-figures
 use Rattle.text.proofs.put_line.Reads as text-put-line
 use Rattle.text.proofs.put_fault.Reads as text-put-fault
 use Rattle.text.proofs.put_failed.Reads as text-put-failed
-use Rattle.stdio.proofs.begin.Reads as stdio-begin
-use Rattle.stdio.proofs.place.Reads as stdio-place
-use Rattle.stdio.proofs.end.Reads as stdio-end
-use Rattle.stdio.proofs.stop.Reads as stdio-stop
-use Rattle.stdio.proofs.fault.Reads as stdio-fault
-use Rattle.stdio.proofs.close.Reads as stdio-close
+use Rattle.stdio.proofs.Listing.begin.Reads as stdio-begin
+use Rattle.stdio.proofs.Listing.place.Reads as stdio-place
+use Rattle.stdio.proofs.Listing.end.Reads as stdio-end
+use Rattle.stdio.proofs.Listing.stop.Reads as stdio-stop
+use Rattle.stdio.proofs.Listing.fault.Reads as stdio-fault
+use Rattle.stdio.proofs.Listing.close.Reads as stdio-close
 
 -- ---- count
 pub one_count_tick : OneResult count-tick.Post
@@ -382,14 +382,14 @@ one_stdio_begin κ given first second e d p q = determined p q
 pub one_stdio_place : OneResult stdio-place.Post
 one_stdio_place κ given first second e d p q = determined p q
 
-pub one_stdio_end : OneOutcome stdio-end.Post (λ κ e. e.0.now)
+pub one_stdio_end : OneOutcome stdio-end.Post (λ κ e. e.1.0.now)
 one_stdio_end κ given first second e d p q = (determined p.0 q.0, determined p.1 q.1)
 
 pub one_stdio_stop : OneResult stdio-stop.Post
 one_stdio_stop κ given first second e d p q = determined p q
 
-pub one_stdio_fault : OneOutcome stdio-fault.Post (λ κ e. e.0.now)
+pub one_stdio_fault : OneOutcome stdio-fault.Post (λ κ e. e.1.0.now)
 one_stdio_fault κ given first second e d p q = (determined p.0 q.0, determined p.1 q.1)
 
-pub one_stdio_close : OneContent stdio-close.Post (λ κ e. e.1.0.now)
+pub one_stdio_close : OneContent stdio-close.Post (λ κ e. e.1.1.0.now)
 one_stdio_close κ given first second e d p q = determined p q

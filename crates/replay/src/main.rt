@@ -18,7 +18,7 @@ struct Course {
 fn faulted(l: Listing, number: u32) -> Listing
     ensures { (result.used ≡ l.used) × (result.have ≡ l.have) }
 {
-    stdio::stop(l, Amiss::Fault(number, stdio::place(l, l.used)))
+    l.stop(Some(Amiss::Fault(number, l.place(l.used))))
 }
 
 // Ends a listing whose night is refused. One that begins here never is (`begun_passes`, `run_keeps`).
@@ -26,7 +26,7 @@ fn refused(l: Listing, answer: Answer) -> Listing
     ensures { (result.used ≡ l.used) × (result.have ≡ l.have) }
 {
     let reply = bus::numbered(answer);
-    stdio::stop(l, Amiss::Refused(reply.number, stdio::place(l, l.used)))
+    l.stop(Some(Amiss::Refused(reply.number, l.place(l.used))))
 }
 
 // Goes on behind the part that was shown: reads on where it wants bytes, ends where nothing is next.
@@ -36,8 +36,8 @@ fn gone_on(rt: &HostRuntime, buf: &mut [u8], l: Listing, next: Next) -> Listing
 {
     match next {
         Next::Lines => l,
-        Next::Bytes => stdio::read_on(rt, buf, l),
-        Next::Nothing => stdio::stop(l, Amiss::Nothing),
+        Next::Bytes => l.read_on(rt, buf),
+        Next::Nothing => l.stop(None),
         Next::Faulted(number) => faulted(l, number),
         Next::Refused(answer) => refused(l, answer),
     }
@@ -61,7 +61,7 @@ fn turn(
     let part = night::replay(night, memory, &buf[used..have], l.ended, out);
     l.at = part.at;
     l.used = used + part.used;
-    let shown = stdio::flush(rt, out, l);
+    let shown = l.flush(rt, out);
     let next = part.next;
     let after = part.night;
     Course {
@@ -73,18 +73,18 @@ fn turn(
 // The whole listing.
 fn run(rt: &HostRuntime, buf: &mut [u8], out: &mut [u8], memory: &mut [u32]) {
     let at = night::put_heading(out, 0);
-    let first = stdio::flush(rt, out, stdio::begin(at));
+    let first = Listing::begin(at).flush(rt, out);
     let mut course = Course {
         listing: first,
         night: night::begin(memory),
     };
-    let mut turns = stdio::TURNS;
-    while turns > 0 && course.listing.more {
+    for _ in 0..stdio::TURNS {
+        if !course.listing.more {
+            break;
+        }
         course = turn(rt, buf, out, memory, course);
-        turns -= 1;
     }
-    let last = course.listing;
-    stdio::close(rt, out, last);
+    course.listing.close(rt, out);
 }
 
 // The two buffers, of 64 KiB for the log and 256 KiB for the listing, and the 16,384 words of the event memory.

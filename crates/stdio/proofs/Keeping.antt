@@ -1,8 +1,7 @@
 -- What a listing keeps: writing and making room change no place of the input buffer, and reading on stays within it.
 -- Assumes nothing.
-use Rattle.std.proofs.Common.{◌≡◌, ℕ, ◌+◌, ◌≤◌, Bool, true, false, cond, ltb, leb, List, length, refl, ap, ◌∙◌, arith}
+use Rattle.std.proofs.Common.{Option, None, ◌≡◌, ℕ, ◌+◌, ◌≤◌, Bool, true, false, cond, ltb, leb, List, length, refl, ap, ◌∙◌, arith}
 use Rattle.stdio.specs.declared.Amiss.{Amiss}
-use Rattle.stdio.specs.declared.Amiss.TheVariants.{Nothing}
 use Rattle.stdio.specs.declared.Listing.{Listing}
 use Rattle.stdio.specs.Listings.{is_lost, lost_by, moved_to, written_by, roomy_by, stopped, faulted, end_of, ReadOnIf, ReadOn}
 
@@ -16,15 +15,15 @@ module _ (l r : Listing) where
   either false x y s t p = (ap (λ (k : Listing). k.used) p ∙ t.0, ap (λ (k : Listing). k.have) p ∙ t.1)
 
   -- it is written
-  pub written_same : (a : Amiss) → r ≡ written_by a l → Same l r
+  pub written_same : (a : Option Amiss) → r ≡ written_by a l → Same l r
   written_same a p = either (is_lost a) (lost_by a l) (moved_to l 0) (refl, refl) (refl, refl) p
 
 -- room is made
-pub roomy_same : (l r : Listing) (a : Amiss) (n want : ℕ) → r ≡ roomy_by a n l want → Same l r
+pub roomy_same : (l r : Listing) (a : Option Amiss) (n want : ℕ) → r ≡ roomy_by a n l want → Same l r
 roomy_same l r a n want p = either l r (leb (l.at + want) n) l (written_by a l) (refl, refl) (written_same l (written_by a l) a refl) p
 
 -- it has ended
-pub stopped_same : (l r : Listing) (a : Amiss) → r ≡ stopped l a → Same l r
+pub stopped_same : (l r : Listing) (a : Option Amiss) → r ≡ stopped l a → Same l r
 stopped_same l r a p = (ap (λ (k : Listing). k.used) p, ap (λ (k : Listing). k.have) p)
 
 -- it has ended in a fault, or at the input's end
@@ -32,7 +31,7 @@ pub fault_same : (l r : Listing) (out : List ℕ) (number : ℕ) → r ≡ fault
 fault_same l r out number p = (ap (λ (k : Listing). k.used) p, ap (λ (k : Listing). k.have) p)
 
 pub end_same : (l r : Listing) (out : List ℕ) (number : ℕ) → r ≡ end_of out l number → Same l r
-end_same l r out number p = either l r (ltb l.used l.have) (faulted out l number) (stopped l Nothing) (refl, refl) (refl, refl) p
+end_same l r out number p = either l r (ltb l.used l.have) (faulted out l number) (stopped l None) (refl, refl) (refl, refl) p
 
 -- it is read on, within its buffer
 within : (m : Bool) (before after : List ℕ) (l r : Listing) → l.used ≤ l.have → l.have ≤ length before → ReadOnIf m before l after r

@@ -11,18 +11,14 @@ use words::failed;
 mod course;
 mod words;
 
-pub use course::{begin, close, end, fault, flush, make_room, place, read_on, stop};
-
 // The most turns of a program's loop, for the proof that it ends: nothing says that an input does. Each turn shows
 // something, reads on or ends the listing, so at a thousand million turns a second they last for five hundred years.
 pub const TURNS: u64 = 18446744073709551615;
 
-// What is amiss with a listing: nothing; it ends in a fault, with its number and the byte, or in an event that is
-// refused, with its number and the word; a case is wrong at a step; a read or a write failed, with the system's
-// number.
-#[derive(Clone, Copy)]
+// What can be amiss with a listing: it ends in a fault, with its number and the byte, or in an event that is refused,
+// with its number and the word; a case is wrong at a step; a read or a write failed, with the system's number.
+#[derive(Clone, Copy, PartialEq, Eq, Debug)]
 pub enum Amiss {
-    Nothing,
     Fault(u32, u64),
     Refused(u32, u64),
     Wrong(u64, u64),
@@ -31,16 +27,16 @@ pub enum Amiss {
 }
 
 // How many bytes at the front of a buffer are the input's, whether the input has ended, and whether the read failed.
-#[derive(Clone, Copy)]
+#[derive(Clone, Copy, PartialEq, Eq, Debug)]
 pub struct Window {
     pub have: usize,
     pub ended: bool,
-    pub amiss: Amiss,
+    pub amiss: Option<Amiss>,
 }
 
 // A listing under way: the bytes of the input buffer used and had, whether the input has ended, the input's place at
 // which that buffer begins, the output buffer's place, whether it goes on, and what is amiss with it.
-#[derive(Clone, Copy)]
+#[derive(Clone, Copy, PartialEq, Eq, Debug)]
 pub struct Listing {
     pub used: usize,
     pub have: usize,
@@ -48,32 +44,27 @@ pub struct Listing {
     pub base: u64,
     pub at: usize,
     pub more: bool,
-    pub amiss: Amiss,
+    pub amiss: Option<Amiss>,
 }
 
 // Moves the bytes from `used` up to `have` to the front and reads more of standard input behind them.
 pub fn refill(rt: &HostRuntime, buf: &mut [u8], used: usize, have: usize) -> Window
     ensures { Refilled buf.old used have buf.new result }
 {
-    let nothing = Window {
-        have: 0,
-        ended: true,
-        amiss: Amiss::Nothing,
-    };
-    if used > have {
-        return nothing;
-    }
-    if have > buf.len() {
-        return nothing;
+    if used > have || have > buf.len() {
+        return Window {
+            have: 0,
+            ended: true,
+            amiss: None,
+        };
     }
     let left = have - used;
     shift(buf, used, left);
-    let mut input = rt.stdin();
-    match input.read(&mut buf[left..]) {
+    match rt.stdin().read(&mut buf[left..]) {
         Ok(n) => Window {
             have: left + n,
             ended: n == 0,
-            amiss: Amiss::Nothing,
+            amiss: None,
         },
         Err(error) => unread(rt, left, error),
     }
@@ -86,7 +77,7 @@ fn unread(rt: &HostRuntime, left: usize, error: io::Error) -> Window
     Window {
         have: left,
         ended: false,
-        amiss: Amiss::Read(failed(rt, b"failed read ", error)),
+        amiss: Some(Amiss::Read(failed(rt, b"failed read ", error))),
     }
 }
 

@@ -77,9 +77,8 @@ fn number_of(error: i32) -> u32 {
 // Says what is amiss with a listing; of a read or a write that failed it was said when it failed.
 pub(crate) fn say(rt: &HostRuntime, amiss: Amiss) {
     match amiss {
-        Amiss::Nothing => {}
-        Amiss::Fault(number, place) => say_numbers(rt, b"fault ", number as u64, place),
-        Amiss::Refused(number, place) => say_numbers(rt, b"refused ", number as u64, place),
+        Amiss::Fault(number, place) => say_numbers(rt, b"fault ", u64::from(number), place),
+        Amiss::Refused(number, place) => say_numbers(rt, b"refused ", u64::from(number), place),
         Amiss::Wrong(case, step) => say_numbers(rt, b"wrong ", case, step),
         Amiss::Read(_) | Amiss::Write(_) => {}
     }

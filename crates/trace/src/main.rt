@@ -16,12 +16,18 @@ mod columns;
 // No limit, for the number that names the module.
 const ANY: [u32; 1] = [4294967295];
 
-// A listing under way: where it stands, the module, and how many entries it has shown.
-#[derive(Clone, Copy)]
-struct Course {
+// A listing under way: the buffers and the memory lent to it, where it stands in them, the module, and how many entries
+// it has shown.
+#[derive(Drop)]
+struct Course<'a> {
+    rt: &'a HostRuntime,
+    buf: &'a mut [u8],
+    out: &'a mut [u8],
+    memory: &'a mut [u32],
     listing: Listing,
     traced: Held,
     entries: u64,
+    ghost had: { listing.have ≤ length buf.now },
 }
 
 // The limits of a V260's head: joined, interrupts and jumpers have one.
@@ -116,7 +122,7 @@ fn put_held(out: &mut [u8], room: usize, entry: u64, traced: Held) -> usize {
 
 // Puts a word of the memory after a blank.
 fn put_word(rt: &HostRuntime, out: &mut [u8], before: Listing, word: u32) -> Listing {
-    let mut l = stdio::make_room(rt, out, before, 11);
+    let mut l = before.make_room(rt, out, 11);
     let p = text::put_text(out, l.at, b" ");
     l.at = text::put_number(out, p, word as u64);
     l
@@ -124,7 +130,7 @@ fn put_word(rt: &HostRuntime, out: &mut [u8], before: Listing, word: u32) -> Lis
 
 // Puts a text.
 fn put_text(rt: &HostRuntime, out: &mut [u8], before: Listing, words: &[u8]) -> Listing {
-    let mut l = stdio::make_room(rt, out, before, words.len());
+    let mut l = before.make_room(rt, out, words.len());
     l.at = text::put_text(out, l.at, words);
     l
 }
@@ -139,78 +145,51 @@ fn put_memory(rt: &HostRuntime, out: &mut [u8], before: Listing, memory: &[u32])
 }
 
 // Puts what comes after the last line: the memory of a V830, unless the listing is cut by a read that failed.
-fn put_last(rt: &HostRuntime, out: &mut [u8], l: Listing, which: Which, memory: &[u32]) -> Listing {
-    if is_cut(l) {
-        return l;
-    }
-    match which {
-        Which::V260 | Which::V560 => l,
-        Which::V830 => put_memory(rt, out, l, memory),
+fn put_last(rt: &HostRuntime, out: &mut [u8], l: Listing, traced: Held, memory: &[u32]) -> Listing {
+    match (l.amiss, traced.module) {
+        (Some(Amiss::Read(_)), _) => l,
+        (_, Module::V830(_)) => put_memory(rt, out, l, memory),
+        _ => l,
     }
 }
 
-// Whether a read failed.
-fn is_cut(l: Listing) -> bool {
-    let amiss = l.amiss;
-    match amiss {
-        Amiss::Read(_) => true,
-        _ => false,
+impl Course<'_> {
+    // Gives the module an entry, shows what it holds then, and goes on behind it.
+    fn show(&mut self, entry: Entry, next: usize) {
+        self.traced = modules::act(self.traced, self.memory, entry);
+        self.entries = self.entries.wrapping_add(1);
+        self.listing.at = put_held(self.out, self.listing.at, self.entries, self.traced);
+        self.listing.used = next;
     }
-}
 
-// Gives the module an entry, shows what it holds then, and goes on behind it.
-fn shown(out: &mut [u8], memory: &mut [u32], course: Course, entry: Entry, next: usize) -> Course
-    ensures { result.listing.have ≤ course.listing.have }
-{
-    let mut l = course.listing;
-    let before = course.traced;
-    let traced = modules::act(before, memory, entry);
-    let entries = std::num::wrapping_add_u64(course.entries, 1);
-    l.at = put_held(out, l.at, entries, traced);
-    l.used = next;
-    Course {
-        listing: l,
-        traced,
-        entries,
-    }
-}
-
-// The listing, gone on to another place.
-fn moved(course: Course, listing: Listing) -> Course
-    ensures { result ≡ record { listing = listing; traced = course.traced; entries = course.entries } }
-{
-    let traced = course.traced;
-    Course {
-        listing,
-        traced,
-        entries: course.entries,
-    }
-}
-
-// Shows the entry that comes next, or reads on, or ends the listing.
-fn turn(
-    rt: &HostRuntime,
-    buf: &mut [u8],
-    out: &mut [u8],
-    memory: &mut [u32],
-    before: Course,
-) -> Course
-    requires { before.listing.have ≤ length buf.old }
-    ensures { result.listing.have ≤ length buf.old }
-{
-    let listing = before.listing;
-    let l = stdio::make_room(rt, out, listing, 903);
-    let course = moved(before, l);
-    let have = l.have;
-    match benchlog::read_entry(&buf[..have], l.used) {
-        Reading::Entry(entry, next) => shown(out, memory, course, entry, next),
-        Reading::Refused(fault, _) => {
-            let number = benchlog::fault_number(fault);
-            if !l.ended && number == benchlog::fault_number(Fault::Ends) {
-                return moved(course, stdio::read_on(rt, buf, stdio::flush(rt, out, l)));
+    // Shows the entry that comes next, or reads on, or ends the listing.
+    fn turn(&mut self) {
+        let l = self.listing.make_room(self.rt, self.out, 903);
+        match benchlog::read_entry(&self.buf[..l.have], l.used) {
+            Reading::Entry(entry, next) => {
+                self.listing = l;
+                self.show(entry, next);
             }
-            moved(course, stdio::end(out, l, number))
+            Reading::Refused(fault, _) => {
+                let number = benchlog::fault_number(fault);
+                self.listing = if !l.ended && number == benchlog::fault_number(Fault::Ends) {
+                    l.flush(self.rt, self.out).read_on(self.rt, self.buf)
+                } else {
+                    l.end(self.out, number)
+                };
+            }
         }
+    }
+
+    // Shows each entry, and then what comes after the last line.
+    fn run(&mut self) -> Listing {
+        for _ in 0..stdio::TURNS {
+            if !self.listing.more {
+                break;
+            }
+            self.turn();
+        }
+        put_last(self.rt, self.out, self.listing, self.traced, self.memory)
     }
 }
 
@@ -225,25 +204,25 @@ fn list_entries(
 ) -> Listing
     requires { first.have ≤ length buf.old }
 {
-    let values = head.values;
-    let which = which_of(values[0]);
-    let traced = modules::begin(which, values, memory);
+    let which = which_of(head.values[0]);
+    let traced = modules::begin(which, head.values, memory);
     let at = put_names(out, which);
-    let mut l = first;
-    l.used = head.after;
-    l.at = put_held(out, at, 0, traced);
+    let at = put_held(out, at, 0, traced);
+    let listing = Listing {
+        used: head.after,
+        at,
+        ..first
+    };
     let mut course = Course {
-        listing: l,
+        rt,
+        buf,
+        out,
+        memory,
+        listing,
         traced,
         entries: 0,
     };
-    let mut turns = stdio::TURNS;
-    while turns > 0 && course.listing.more {
-        course = turn(rt, buf, out, memory, course);
-        turns -= 1;
-    }
-    let listed = course.listing;
-    put_last(rt, out, listed, which, memory)
+    course.run()
 }
 
 // The module that a head names.
@@ -279,7 +258,7 @@ fn list(
         let end = modules::lent(which_of(values[0]), values, memory.len());
         return list_entries(rt, buf, out, &mut memory[..end], first, head);
     }
-    stdio::fault(out, first, head.answer)
+    first.fault(out, head.answer)
 }
 
 // Whether the bytes that are read end inside the head.
@@ -295,11 +274,12 @@ fn ends_in_head(buf: &[u8], l: Listing) -> bool
 fn begun(rt: &HostRuntime, buf: &mut [u8]) -> Listing
     ensures { result.have ≤ length buf.old }
 {
-    let mut l = stdio::begin(0);
-    let mut turns = stdio::TURNS;
-    while turns > 0 && l.more && !l.ended && ends_in_head(buf, l) {
-        l = stdio::read_on(rt, buf, l);
-        turns -= 1;
+    let mut l = Listing::begin(0);
+    for _ in 0..stdio::TURNS {
+        if !l.more || l.ended || !ends_in_head(buf, l) {
+            break;
+        }
+        l = l.read_on(rt, buf);
     }
     l
 }
@@ -308,7 +288,7 @@ fn begun(rt: &HostRuntime, buf: &mut [u8]) -> Listing
 fn run(rt: &HostRuntime, buf: &mut [u8], out: &mut [u8], memory: &mut [u32]) {
     let first = begun(rt, buf);
     let last = list(rt, buf, out, memory, first);
-    stdio::close(rt, out, last);
+    last.close(rt, out);
 }
 
 // Sets the words to 1, 2, 3 and so on.

@@ -1,9 +1,6 @@
--- What is had of the input lies within its buffer; the measure is a count of turns. Assumes nothing.
-use Rattle.std.proofs.Common.{◌≡◌, ◌≤◌, length}
+-- What is had of the input lies within its buffer. Assumes nothing.
+use Rattle.std.proofs.Common.{◌≤◌, length}
 use Rattle.trace.proofs.begun.Given as goal
 
-abbrev pub invariant-loop-turns : goal.invariant-loop-turns
-invariant-loop-turns l = (l.l.have ≤ length l.initial.buf) × (length l.buf ≡ length l.initial.buf)
-
-abbrev pub decreases-loop-turns : goal.decreases-loop-turns
-decreases-loop-turns l = l.turns
+abbrev pub invariant-loop : goal.invariant-loop
+invariant-loop l = l.l.have ≤ length l.buf
