@@ -1,6 +1,11 @@
 -- The captured words, one after the other. Assumes nothing.
-use Rattle.std.proofs.Common.{◌≡◌, ℕ, zero, suc, ◌+◌, ◌*◌, ◌<◌, List, [], ◌∷◌, ◌++◌, length, get_or, take, set, sym, ap, add-one, arith, take-suc-set}
+use Rattle.std.proofs.Common.{◌≡◌, ℕ, zero, suc, ◌+◌, ◌*◌, ◌<◌, List, [], ◌∷◌, ◌++◌, length, get_or, take, set, sym, ap, add-one, arith, take-suc-set, w32}
+use Rattle.std.specs.Int.{from_le_bytes}
 use Rattle.blocks.specs.Words.{word_of, words_from}
+
+-- the library's word of four bytes
+pub little_end : (b₀ b₁ b₂ b₃ : ℕ) → from_le_bytes w32 (b₀ ∷ b₁ ∷ b₂ ∷ b₃ ∷ []) ≡ word_of b₀ b₁ b₂ b₃
+little_end b₀ b₁ b₂ b₃ = omega arith
 
 -- the word at a place
 abbrev pub word_at : List ℕ → ℕ → ℕ

@@ -18,37 +18,25 @@ const LIMITS: [u32; 3] = [1, 1, 4294967295];
 fn unused(l: Listing) -> usize
     ensures { result ≡ l.have - l.used }
 {
-    if l.used > l.have {
-        return 0;
-    }
-    l.have - l.used
-}
-
-// The word of four bytes, the low byte first.
-fn word(b0: u8, b1: u8, b2: u8, b3: u8) -> u32
-    ensures { result ≡ word_of b0 b1 b2 b3 }
-{
-    b0 as u32 + 256 * b1 as u32 + 65536 * b2 as u32 + 16777216 * b3 as u32
+    l.have.saturating_sub(l.used)
 }
 
 // How many words bytes hold, 33 at most, which an event does not exceed.
 fn whole_words(bytes: usize) -> usize
     ensures { (result ≡ whole_words bytes) × (result ≤ 33) × (4 * result ≤ bytes) }
 {
-    if bytes < 132 { bytes / 4 } else { 33 }
+    (bytes / 4).min(33)
 }
 
-// The first `many` words of bytes.
+// The first `many` words of bytes, four bytes each, the low byte first.
 fn words_of(bytes: &[u8], many: usize) -> [u32; 33]
     requires { (many ≤ 33) × (4 * many ≤ length bytes.now) }
     ensures { take many result ≡ words_from many bytes.now 0 }
 {
     let mut words = [0u32; 33];
-    let mut i = 0;
-    while i < many {
+    for i in 0..many {
         let at = 4 * i;
-        words[i] = word(bytes[at], bytes[at + 1], bytes[at + 2], bytes[at + 3]);
-        i += 1;
+        words[i] = u32::from_le_bytes([bytes[at], bytes[at + 1], bytes[at + 2], bytes[at + 3]]);
     }
     words
 }
@@ -76,15 +64,16 @@ fn shown(reading: Result<Read, Refusal>) -> (Reply, Event)
 fn numbers_of(place: u64, reply: Reply, event: Event) -> [u64; 38]
     ensures { result ≡ numbers_of place reply event }
 {
-    let counts = event.counts;
-    let mut numbers = [0u64; 38];
-    numbers[0] = place;
-    numbers[1] = reply.number as u64;
-    numbers[2] = reply.value as u64;
-    numbers[3] = event.geo as u64;
-    numbers[4] = event.source as u64;
-    numbers[5] = event.trigger as u64;
-    text::put_words(&mut numbers, 6, &counts);
+    let first = [
+        reply.number,
+        reply.value,
+        event.geo,
+        event.source,
+        event.trigger,
+    ];
+    let mut numbers = [place; 38];
+    text::put_words(&mut numbers, 1, &first);
+    text::put_words(&mut numbers, 6, &event.counts);
     numbers
 }
 
@@ -93,20 +82,16 @@ fn numbers_of(place: u64, reply: Reply, event: Event) -> [u64; 38]
 fn listed(out: &mut [u8], l: Listing, reply: Reply, event: Event, from: u64) -> Listing
     ensures { result.have ≡ l.have }
 {
-    let place = std::num::wrapping_sub_u64(l.place(l.used), from) / 4;
-    let numbers = numbers_of(place, reply, event);
-    let mut after = l;
-    after.at = text::put_line(out, l.at, &numbers);
+    let place = l.place(l.used).wrapping_sub(from) / 4;
+    let at = text::put_line(out, l.at, &numbers_of(place, reply, event));
+    let shown = Listing { at, ..l };
     if reply.number != 0 {
-        return after.stop(Some(Amiss::Refused(reply.number, place)));
+        return shown.stop(Some(Amiss::Refused(reply.number, place)));
     }
-    after.used = behind(l.used, reply.value);
-    after
-}
-
-// The place behind an event of so many words that begins at a place.
-fn behind(used: usize, words: u32) -> usize {
-    std::num::wrapping_add_usize(used, 4 * words as usize)
+    Listing {
+        used: l.used.wrapping_add(4 * reply.value as usize),
+        ..shown
+    }
 }
 
 // Lists the event that comes next, or reads on where its words are not all there, or ends the listing. A line has 38
@@ -129,9 +114,7 @@ fn turn(
     if unused(l) < 4 {
         return l.flush(rt, out).read_on(rt, buf);
     }
-    let used = l.used;
-    let have = l.have;
-    let reading = event_in(settings, &buf[used..have]);
+    let reading = event_in(settings, &buf[l.used..l.have]);
     if matches!(reading, Err(Refusal::WordsEnd)) && !l.ended {
         return l.flush(rt, out).read_on(rt, buf);
     }

@@ -25,12 +25,8 @@ fn event_of(head: Head) -> Event
     ensures { result ≡ event_of head }
 {
     let values = head.values;
-    let mut counts = [0u32; 32];
-    let mut k: usize = 0;
-    while k < 32 {
-        counts[k] = values[7 + k];
-        k += 1;
-    }
+    let mut counts = [0; 32];
+    counts.copy_from_slice(&values[7..39]);
     Event {
         geo: values[4],
         source: values[5],
@@ -43,8 +39,7 @@ fn event_of(head: Head) -> Event
 fn room_of(head: Head) -> usize
     ensures { result ≤ 64 }
 {
-    let room = head.values[3] as usize;
-    if room > 64 { 64 } else { room }
+    (head.values[3] as usize).min(64)
 }
 
 // The words before the call: 1, 2, 3 and so on.
@@ -52,10 +47,8 @@ fn first_words() -> [u32; 64]
     ensures { result ≡ up_from 64 1 }
 {
     let mut words = [0u32; 64];
-    let mut i: usize = 0;
-    while i < 64 {
-        words[i] = i as u32 + 1;
-        i += 1;
+    for (i, word) in words.iter_mut().enumerate() {
+        *word = i as u32 + 1;
     }
     words
 }
@@ -92,12 +85,14 @@ fn put_block(out: &mut [u8], first: Listing, head: Head) -> Listing {
     let answer = layout::write_event(settings, event_of(head), &mut words[..room]);
     let reply = layout::numbered(answer);
     let at = text::put_line(out, 0, &[reply.number as u64, reply.value as u64]);
-    let mut l = first;
-    l.at = put_words(out, at, words, room);
-    if reply.number != 0 {
-        return l.stop(Some(Amiss::Refused(reply.number, 0)));
+    let l = Listing {
+        at: put_words(out, at, words, room),
+        ..first
+    };
+    match answer {
+        Ok(_) => l,
+        Err(why) => l.stop(Some(Amiss::Refused(why.number(), 0))),
     }
-    l
 }
 
 // What is written behind the listing's beginning; a refused head is its fault line alone.
