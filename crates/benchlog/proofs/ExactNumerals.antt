@@ -1,9 +1,10 @@
 -- Each fault of a number, 30, 31 and 32, is given exactly when its line of document 01's table holds: both ways,
 -- carried by the tests of the definitions. Assumes nothing.
 use Prim.Native.Nat.{ℕ, zero, suc, ◌+◌, ◌-◌, ◌*◌, ◌^◌, ◌≤◌, ◌<◌}
-use mathlib.Core.Path.{◌≡◌, refl, sym, ◌∙◌}
+use mathlib.Core.Path.{◌≡◌, refl, sym, ap, ◌∙◌}
 use mathlib.Core.Bool.{Bool, true, false, cond}
 use mathlib.Core.List.{List}
+use Rattle.std.specs.Prelude.{Result, Ok, Err}
 use mathlib.Core.Logic.{◌↔◌}
 use native.Mathlib.Nat.{add-zero}
 use native.Mathlib.Omega.{arith}
@@ -13,9 +14,9 @@ use lib.ListN.{length, get_or}
 use Rattle.benchlog.specs.declared.Fault.{Fault}
 use Rattle.benchlog.specs.declared.Fault.TheVariants.{Ends, NotShortest, TooLarge}
 use Rattle.benchlog.specs.declared.Numeral.{Numeral}
-use Rattle.benchlog.specs.declared.Numeral.TheVariants as numeral
+use Rattle.benchlog.specs.declared.Refused.{Refused}
 use Rattle.benchlog.specs.Lines.{MoreFollow, NumberFault, ends, not_shortest, too_large}
-use Rattle.benchlog.specs.Number.{group, groups, number_at}
+use Rattle.benchlog.specs.Number.{numeral, refused, group, groups, number_at}
 use Rattle.benchlog.proofs.Groups.{above, not_shortest_lem}
 use Rattle.benchlog.proofs.Groups as byte
 
@@ -25,8 +26,21 @@ tested P true p q = p refl
 tested P false p q = q refl
 
 -- a number is not refused and read
-pub read_not_refused : {n : Numeral} {fault : Fault} {place v next : ℕ} → n ≡ numeral.Refused fault place → n ≡ numeral.Value v next → ⊥
+pub read_not_refused : {n : Result Numeral Refused} {fault : Fault} {place v next : ℕ} → n ≡ refused fault place → n ≡ numeral v next → ⊥
 read_not_refused p q = let z : ◌≡◌ {A = ℕ} 0 1 = cc in omega arith
+
+-- nor is it refused twice, or read twice, otherwise
+pub same_fault : {A : Type 0} {x : Result A Refused} {f g : Fault} {p q : ℕ} → x ≡ refused f p → x ≡ refused g q → f ≡ g
+same_fault {f = f} {g = g} {p = p} {q = q} d e = let r : ◌≡◌ {A = Refused} (record { fault = f; place = p }) (record { fault = g; place = q }) = cc in ap (λ (t : Refused). t.fault) r
+
+same_numeral : {n : Result Numeral Refused} {v w p q : ℕ} → n ≡ numeral v p → n ≡ numeral w q → ◌≡◌ {A = Numeral} (record { value = v; next = p }) (record { value = w; next = q })
+same_numeral d e = cc
+
+pub same_value : {n : Result Numeral Refused} {v w p q : ℕ} → n ≡ numeral v p → n ≡ numeral w q → v ≡ w
+same_value d e = ap (λ (m : Numeral). m.value) (same_numeral d e)
+
+pub same_next : {n : Result Numeral Refused} {v w p q : ℕ} → n ≡ numeral v p → n ≡ numeral w q → p ≡ q
+same_next d e = ap (λ (m : Numeral). m.next) (same_numeral d e)
 
 module _ (log : List ℕ) (at : ℕ) where
   -- one byte more that says so
@@ -38,11 +52,11 @@ module _ (log : List ℕ) (at : ℕ) where
       go false e = let s : g ≡ i = omega (arith, ltb-false i g e) in rw (← s) (h, b)
 
   -- a refusal has its line
-  abbrev Refuses : Numeral → Type 0
-  Refuses (numeral.Value v next) = Unit {0}
-  Refuses (numeral.Refused fault place) = NumberFault log at fault
+  abbrev Refuses : Result Numeral Refused → Type 0
+  Refuses (Ok n) = Unit {0}
+  Refuses (Err r) = NumberFault log at r.fault
 
-  group_refuses : (g sum limit : ℕ) (over : Numeral) → 1 ≤ g → g ≤ 4 → MoreFollow log at g
+  group_refuses : (g sum limit : ℕ) (over : Result Numeral Refused) → 1 ≤ g → g ≤ 4 → MoreFollow log at g
       → (at + g < length log → limit < get_or log (at + g) 0 → Refuses over) → Refuses (group log at g sum limit over)
   unfolding group
   group_refuses g sum limit over o l m p =
@@ -90,22 +104,22 @@ module _ (log : List ℕ) (at : ℕ) where
         same = above log at (suc d) r.sum 0x7F _ b.0 _ refl b.1 ∙ r.same;
       }
 
-  groups_end : (more g sum : ℕ) → length log ≤ at + g → groups more log at g sum ≡ numeral.Refused Ends at
+  groups_end : (more g sum : ℕ) → length log ≤ at + g → groups more log at g sum ≡ refused Ends at
   unfolding groups
   groups_end zero g sum h = sym (byte.ends log at g sum _ _ h)
   groups_end (suc more) g sum h = sym (byte.ends log at g sum _ _ h)
 
-  groups_zero : (more g sum : ℕ) → at + g < length log → get_or log (at + g) 0 ≡ 0 → groups more log at g sum ≡ numeral.Refused NotShortest at
+  groups_zero : (more g sum : ℕ) → at + g < length log → get_or log (at + g) 0 ≡ 0 → groups more log at g sum ≡ refused NotShortest at
   unfolding groups
   groups_zero zero g sum h z = sym (not_shortest_lem log at g sum 0x0F _ h (get_or log (at + g) 0) refl (omega arith) z)
   groups_zero (suc more) g sum h z = sym (not_shortest_lem log at g sum 0x7F _ h (get_or log (at + g) 0) refl (omega arith) z)
 
-  groups_large : (g sum : ℕ) → at + g < length log → 0x0F < get_or log (at + g) 0 → groups 0 log at g sum ≡ numeral.Refused TooLarge at
+  groups_large : (g sum : ℕ) → at + g < length log → 0x0F < get_or log (at + g) 0 → groups 0 log at g sum ≡ refused TooLarge at
   unfolding groups
   groups_large g sum h b = sym (above log at g sum 0x0F _ h (get_or log (at + g) 0) refl b)
 
   -- a line has its refusal
-  pub number_at_fault : {fault : Fault} → NumberFault log at fault → number_at log at ≡ numeral.Refused fault at
+  pub number_at_fault : {fault : Fault} → NumberFault log at fault → number_at log at ≡ refused fault at
   unfolding number_at
   number_at_fault (ends zero l m h) = rw (le-ltb at (length log) (rw add-zero at h))
   number_at_fault (ends (suc d) l m h) = let r = reached d (3 - d) (omega arith) m in sym r.same ∙ groups_end (3 - d) (suc d) r.sum h
@@ -114,17 +128,17 @@ module _ (log : List ℕ) (at : ℕ) where
   number_at_fault (too_large m h b) = let r = reached 3 0 refl m in sym r.same ∙ groups_large 4 r.sum h b
 
   -- what a refusal of the number says
-  pub refused_number : {fault : Fault} {place : ℕ} → number_at log at ≡ numeral.Refused fault place → NumberFault log at fault
+  pub refused_number : {fault : Fault} {place : ℕ} → number_at log at ≡ refused fault place → NumberFault log at fault
   refused_number e = rw e at number_refuses
 
   -- ---- the theorems
-  pub number_fault_is : (fault : Fault) → number_at log at ≡ numeral.Refused fault at ↔ NumberFault log at fault
+  pub number_fault_is : (fault : Fault) → number_at log at ≡ refused fault at ↔ NumberFault log at fault
   number_fault_is fault = ((λ e. refused_number e), λ l. number_at_fault l)
 
   -- a number is read exactly when there is no fault
-  pub number_read_is : ((fault : Fault) → NumberFault log at fault → ⊥) ↔ ((v : ℕ) × (next : ℕ) × (number_at log at ≡ numeral.Value v next))
-  number_read_is = ((λ none. go (number_at log at) refl none), λ r f l. read_not_refused (number_at_fault l) r.2)
+  pub number_read_is : ((fault : Fault) → NumberFault log at fault → ⊥) ↔ ((n : Numeral) × (number_at log at ≡ Ok n))
+  number_read_is = ((λ none. go (number_at log at) refl none), λ r f l. read_not_refused (number_at_fault l) r.1)
     where
-      go : (n : Numeral) → number_at log at ≡ n → ((fault : Fault) → NumberFault log at fault → ⊥) → (v : ℕ) × (next : ℕ) × (number_at log at ≡ numeral.Value v next)
-      go (numeral.Value v next) e none = (v, next, e)
-      go (numeral.Refused fault place) e none = absurd (none fault (refused_number e))
+      go : (x : Result Numeral Refused) → number_at log at ≡ x → ((fault : Fault) → NumberFault log at fault → ⊥) → (n : Numeral) × (number_at log at ≡ Ok n)
+      go (Ok n) e none = (n, e)
+      go (Err r) e none = absurd (none r.fault (refused_number e))

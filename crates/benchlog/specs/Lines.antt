@@ -5,8 +5,7 @@
 use Rattle.std.specs.Prelude.{ℕ, ◌+◌, ◌^◌, ◌≤◌, ◌<◌, ◌≡◌, Bool, true, false, cond, ◌||◌, List, eqb, ltb, leb, length, get_or}
 use Rattle.benchlog.specs.declared.Fault.{Fault}
 use Rattle.benchlog.specs.declared.Fault.TheVariants.{Ends, NotShortest, TooLarge, NoSuchKind, OutOfRange}
-use Rattle.benchlog.specs.declared.Numeral.TheVariants.{Value}
-use Rattle.benchlog.specs.Number.{number_at}
+use Rattle.benchlog.specs.Number.{numeral, number_at}
 
 -- ---- a number
 -- "the top bit saying that more follows": the g bytes from `at` on are there, and each has its top bit
@@ -47,13 +46,13 @@ pub data ArgumentFault (log : List ℕ) : ℕ → Arguments → Fault → Type 0
   in_number : {at : ℕ} {in_range : ℕ → Bool} {after : ℕ → Arguments} {fault : Fault}
       → NumberFault log at fault → ArgumentFault log at (argument in_range after) fault
   outside : {at v next : ℕ} {in_range : ℕ → Bool} {after : ℕ → Arguments}
-      → number_at log at ≡ Value v next → in_range v ≡ false → ArgumentFault log at (argument in_range after) OutOfRange
+      → number_at log at ≡ numeral v next → in_range v ≡ false → ArgumentFault log at (argument in_range after) OutOfRange
   further : {at v next : ℕ} {in_range : ℕ → Bool} {after : ℕ → Arguments} {fault : Fault}
-      → number_at log at ≡ Value v next → in_range v ≡ true → ArgumentFault log next (after v) fault → ArgumentFault log at (argument in_range after) fault
+      → number_at log at ≡ numeral v next → in_range v ≡ true → ArgumentFault log next (after v) fault → ArgumentFault log at (argument in_range after) fault
 
 -- ---- an entry: a fault in the number of its kind; 33: "entry kind above 7"; or a fault in the arguments of its kind
 pub data EntryFault (log : List ℕ) (at : ℕ) : Fault → Type 0 where
   in_kind : {fault : Fault} → NumberFault log at fault → EntryFault log at fault
-  no_such_kind : {kind next : ℕ} → number_at log at ≡ Value kind next → 7 < kind → EntryFault log at NoSuchKind
+  no_such_kind : {kind next : ℕ} → number_at log at ≡ numeral kind next → 7 < kind → EntryFault log at NoSuchKind
   in_arguments : {kind next : ℕ} {fault : Fault}
-      → number_at log at ≡ Value kind next → kind ≤ 7 → ArgumentFault log next (arguments_of kind) fault → EntryFault log at fault
+      → number_at log at ≡ numeral kind next → kind ≤ 7 → ArgumentFault log next (arguments_of kind) fault → EntryFault log at fault

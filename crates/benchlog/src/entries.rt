@@ -1,42 +1,41 @@
 // An entry of the bench log: its kind, then its arguments, each looked at as soon as it is read.
 ghost use Rattle.std.specs.Prelude.{◌≡◌};
-ghost use Rattle.benchlog.specs.Entries.{argument_at, width_at, data_limit, veto_at, pulse_at, read_at, write_at, kind_at, entry_at};
+ghost use Rattle.benchlog.specs.Entries.{argument_at, width_at, data_limit, read_to, veto_at, pulse_at, read_at, write_at, kind_at, kind_and_arguments_at, entry_at};
 
 use crate::numbers::read_number;
-use crate::{Entry, Fault, Numeral, Reading};
+use crate::{Entry, Fault, Numeral, Reading, Refused};
 
-// An argument of 0 to `most`, at a place.
-pub fn read_argument(log: &[u8], at: usize, most: u32) -> Numeral
-    ensures { result ≡ argument_at log.now at most }
-{
-    match read_number(log, at) {
-        Numeral::Refused(fault, place) => Numeral::Refused(fault, place),
-        Numeral::Value(value, next) => {
-            if value <= most {
-                Numeral::Value(value, next)
-            } else {
-                Numeral::Refused(Fault::OutOfRange, at)
-            }
-        }
+// Inside an entry only the fault is kept: the place is the entry's.
+impl From<Refused> for Fault {
+    ghost from_gives = { λ refused fault. fault ≡ refused.fault };
+
+    fn from(refused: Refused) -> Fault {
+        refused.fault
     }
 }
 
+// An argument of 0 to `most`, at a place.
+#[tactic(auto, unfolding(crate::specs::Entries::argument_at))]
+pub fn read_argument(log: &[u8], at: usize, most: u32) -> Result<Numeral, Refused>
+    ensures { result ≡ argument_at log.now at most }
+{
+    let argument = read_number(log, at)?;
+    if argument.value > most {
+        return Err(Fault::OutOfRange.at(at));
+    }
+    Ok(argument)
+}
+
 // A width: 16 or 32.
-fn width(log: &[u8], at: usize) -> Numeral
+#[tactic(auto, unfolding(crate::specs::Entries::width_at))]
+fn width(log: &[u8], at: usize) -> Result<Numeral, Refused>
     ensures { result ≡ width_at log.now at }
 {
-    match read_number(log, at) {
-        Numeral::Refused(fault, place) => Numeral::Refused(fault, place),
-        Numeral::Value(value, next) => {
-            if value == 16 {
-                Numeral::Value(value, next)
-            } else if value == 32 {
-                Numeral::Value(value, next)
-            } else {
-                Numeral::Refused(Fault::OutOfRange, at)
-            }
-        }
+    let width = read_number(log, at)?;
+    if width.value != 16 && width.value != 32 {
+        return Err(Fault::OutOfRange.at(at));
     }
+    Ok(width)
 }
 
 // The largest data of a width.
@@ -46,97 +45,87 @@ fn data_limit(width: u32) -> u32
     if width == 16 { 65535 } else { 4294967295 }
 }
 
-// The arguments of a pulse, from `p` on, of the entry at `at`.
-fn pulse(log: &[u8], at: usize, p: usize) -> Reading
-    ensures { result ≡ pulse_at log.now at p }
+// An entry that is read, and ends before `next`.
+fn read_to(entry: Entry, next: usize) -> Result<Reading, Fault>
+    ensures { result ≡ read_to entry next }
 {
-    match read_argument(log, p, 31) {
-        Numeral::Refused(fault, _) => Reading::Refused(fault, at),
-        Numeral::Value(channel, q) => match read_number(log, q) {
-            Numeral::Refused(fault, _) => Reading::Refused(fault, at),
-            Numeral::Value(n, next) => Reading::Entry(Entry::Pulse(channel, n), next),
-        },
-    }
+    Ok(Reading { entry, next })
+}
+
+// The arguments of a pulse, from `p` on.
+#[tactic(auto, unfolding(crate::specs::Entries::pulse_at))]
+fn pulse(log: &[u8], p: usize) -> Result<Reading, Fault>
+    ensures { result ≡ pulse_at log.now p }
+{
+    let channel = read_argument(log, p, 31)?;
+    let n = read_number(log, channel.next)?;
+    read_to(Entry::Pulse(channel.value, n.value), n.next)
 }
 
 // The argument of a veto line.
-fn veto(log: &[u8], at: usize, p: usize) -> Reading
-    ensures { result ≡ veto_at log.now at p }
+#[tactic(auto, unfolding(crate::specs::Entries::veto_at))]
+fn veto(log: &[u8], p: usize) -> Result<Reading, Fault>
+    ensures { result ≡ veto_at log.now p }
 {
-    match read_argument(log, p, 1) {
-        Numeral::Refused(fault, _) => Reading::Refused(fault, at),
-        Numeral::Value(line, next) => Reading::Entry(Entry::Veto(line == 1), next),
-    }
+    let line = read_argument(log, p, 1)?;
+    read_to(Entry::Veto(line.value == 1), line.next)
 }
 
 // The arguments of a read.
-fn read(log: &[u8], at: usize, p: usize) -> Reading
-    ensures { result ≡ read_at log.now at p }
+#[tactic(auto, unfolding(crate::specs::Entries::read_at))]
+fn read(log: &[u8], p: usize) -> Result<Reading, Fault>
+    ensures { result ≡ read_at log.now p }
 {
-    match read_argument(log, p, 65535) {
-        Numeral::Refused(fault, _) => Reading::Refused(fault, at),
-        Numeral::Value(offset, q) => match width(log, q) {
-            Numeral::Refused(fault, _) => Reading::Refused(fault, at),
-            Numeral::Value(bits, next) => Reading::Entry(Entry::Read(offset, bits), next),
-        },
-    }
+    let offset = read_argument(log, p, 65535)?;
+    let bits = width(log, offset.next)?;
+    read_to(Entry::Read(offset.value, bits.value), bits.next)
 }
 
 // The arguments of a write.
-fn write(log: &[u8], at: usize, p: usize) -> Reading
-    ensures { result ≡ write_at log.now at p }
+#[tactic(auto, unfolding(crate::specs::Entries::write_at))]
+fn write(log: &[u8], p: usize) -> Result<Reading, Fault>
+    ensures { result ≡ write_at log.now p }
 {
-    match read_argument(log, p, 65535) {
-        Numeral::Refused(fault, _) => Reading::Refused(fault, at),
-        Numeral::Value(offset, q) => match width(log, q) {
-            Numeral::Refused(fault, _) => Reading::Refused(fault, at),
-            Numeral::Value(bits, r) => match read_argument(log, r, data_limit(bits)) {
-                Numeral::Refused(fault, _) => Reading::Refused(fault, at),
-                Numeral::Value(data, next) => {
-                    Reading::Entry(Entry::Write(offset, bits, data), next)
-                }
-            },
-        },
+    let offset = read_argument(log, p, 65535)?;
+    let bits = width(log, offset.next)?;
+    let data = read_argument(log, bits.next, data_limit(bits.value))?;
+    read_to(
+        Entry::Write(offset.value, bits.value, data.value),
+        data.next,
+    )
+}
+
+// What follows a kind that ends before `p`.
+#[tactic(auto, unfolding(crate::specs::Entries::kind_at))]
+fn of_kind(log: &[u8], kind: u32, p: usize) -> Result<Reading, Fault>
+    ensures { result ≡ kind_at log.now kind p }
+{
+    match kind {
+        0 => pulse(log, p),
+        1 => veto(log, p),
+        2 => read_to(Entry::Test, p),
+        3 => read_to(Entry::Clear, p),
+        4 => read_to(Entry::Trigger, p),
+        5 => read(log, p),
+        6 => write(log, p),
+        7 => read_to(Entry::ManClr, p),
+        _ => Err(Fault::NoSuchKind),
     }
 }
 
-// What follows a kind that ends before `p`, of the entry at `at`; told by comparisons.
-fn of_kind(log: &[u8], at: usize, kind: u32, p: usize) -> Reading
-    ensures { result ≡ kind_at log.now at kind p }
+// An entry's kind, and what follows it.
+#[tactic(auto, unfolding(crate::specs::Entries::kind_and_arguments_at))]
+fn entry(log: &[u8], at: usize) -> Result<Reading, Fault>
+    ensures { result ≡ kind_and_arguments_at log.now at }
 {
-    if kind < 2 {
-        if kind == 0 {
-            return pulse(log, at, p);
-        }
-        return veto(log, at, p);
-    }
-    if kind < 5 {
-        if kind == 4 {
-            return Reading::Entry(Entry::Trigger, p);
-        }
-        if kind == 2 {
-            return Reading::Entry(Entry::Test, p);
-        }
-        return Reading::Entry(Entry::Clear, p);
-    }
-    if kind < 7 {
-        if kind == 5 {
-            return read(log, at, p);
-        }
-        return write(log, at, p);
-    }
-    if kind == 7 {
-        return Reading::Entry(Entry::ManClr, p);
-    }
-    Reading::Refused(Fault::NoSuchKind, at)
+    let kind = read_number(log, at)?;
+    of_kind(log, kind.value, kind.next)
 }
 
 // The entry at a place.
-pub fn read_entry(log: &[u8], at: usize) -> Reading
+#[tactic(auto, unfolding(crate::specs::Entries::entry_at))]
+pub fn read_entry(log: &[u8], at: usize) -> Result<Reading, Refused>
     ensures { result ≡ entry_at log.now at }
 {
-    match read_number(log, at) {
-        Numeral::Refused(fault, _) => Reading::Refused(fault, at),
-        Numeral::Value(kind, p) => of_kind(log, at, kind, p),
-    }
+    entry(log, at).map_err(|fault| fault.at(at))
 }

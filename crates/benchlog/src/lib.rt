@@ -12,7 +12,7 @@ pub use entries::{read_argument, read_entry};
 pub use numbers::read_number;
 
 // Why a log is refused.
-#[derive(Clone, Copy)]
+#[derive(Clone, Copy, PartialEq, Eq, Debug)]
 pub enum Fault {
     Ends,
     NotShortest,
@@ -21,15 +21,15 @@ pub enum Fault {
     OutOfRange,
 }
 
-// What reading a number gives: it and the place after it, or the fault and the place that was given.
-#[derive(Clone, Copy)]
-pub enum Numeral {
-    Value(u32, usize),
-    Refused(Fault, usize),
+// A number that was read, and the place after it.
+#[derive(Clone, Copy, PartialEq, Eq, Debug)]
+pub struct Numeral {
+    pub value: u32,
+    pub next: usize,
 }
 
 // An entry. A veto line is on or off; a read has offset and width, a write data besides.
-#[derive(Clone, Copy)]
+#[derive(Clone, Copy, PartialEq, Eq, Debug)]
 pub enum Entry {
     Pulse(u32, u32),
     Veto(bool),
@@ -41,11 +41,18 @@ pub enum Entry {
     ManClr,
 }
 
-// What reading an entry gives: it and the place after it, or the fault and the place that was given.
-#[derive(Clone, Copy)]
-pub enum Reading {
-    Entry(Entry, usize),
-    Refused(Fault, usize),
+// An entry that was read, and the place after it.
+#[derive(Clone, Copy, PartialEq, Eq, Debug)]
+pub struct Reading {
+    pub entry: Entry,
+    pub next: usize,
+}
+
+// Why nothing was read, and the place that was given.
+#[derive(Clone, Copy, PartialEq, Eq, Debug)]
+pub struct Refused {
+    pub fault: Fault,
+    pub place: usize,
 }
 
 // A reading as numbers: answer (0 when done), kind, the arguments in the log's order, and the place.
@@ -59,27 +66,36 @@ pub struct Fields {
     pub place: usize,
 }
 
-// The number of a fault.
-pub fn fault_number(fault: Fault) -> u32
-    ensures { result ≡ fault_number fault }
-{
-    match fault {
-        Fault::Ends => 30,
-        Fault::NotShortest => 31,
-        Fault::TooLarge => 32,
-        Fault::NoSuchKind => 33,
-        Fault::OutOfRange => 34,
+impl Fault {
+    // The number of a fault.
+    pub fn number(self) -> u32
+        ensures { result ≡ fault_number self }
+    {
+        match self {
+            Fault::Ends => 30,
+            Fault::NotShortest => 31,
+            Fault::TooLarge => 32,
+            Fault::NoSuchKind => 33,
+            Fault::OutOfRange => 34,
+        }
+    }
+
+    // The refusal for a fault, of what was to be read at a place.
+    pub(crate) fn at(self, place: usize) -> Refused
+        ensures { result ≡ record { fault = self; place = place } }
+    {
+        Refused { fault: self, place }
     }
 }
 
 // The numbers of a reading: a refused one has all fields 0 and the place that was given.
-pub fn numbers_of(reading: Reading) -> Fields
+pub fn numbers_of(reading: Result<Reading, Refused>) -> Fields
     ensures { result ≡ fields_of reading }
 {
     match reading {
-        Reading::Entry(entry, place) => numbers_of_entry(entry, place),
-        Reading::Refused(fault, place) => Fields {
-            answer: fault_number(fault),
+        Ok(Reading { entry, next }) => numbers_of_entry(entry, next),
+        Err(Refused { fault, place }) => Fields {
+            answer: fault.number(),
             kind: 0,
             first: 0,
             second: 0,

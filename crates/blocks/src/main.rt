@@ -109,7 +109,7 @@ fn turn(
 {
     let l = before.make_room(rt, out, 798);
     if unused(l) < 4 && l.ended {
-        return l.end(out, benchlog::fault_number(Fault::Ends));
+        return l.end(out, Fault::Ends.number());
     }
     if unused(l) < 4 {
         return l.flush(rt, out).read_on(rt, buf);
@@ -162,11 +162,10 @@ fn list(rt: &HostRuntime, buf: &mut [u8], out: &mut [u8], first: Listing) -> Lis
         return first;
     }
     let have = first.have;
-    let head = head::read_head(&buf[..have], &LIMITS);
-    if head.answer == 0 {
-        return list_events(rt, buf, out, first, head);
+    match head::read_head(&buf[..have], &LIMITS) {
+        Ok(head) => list_events(rt, buf, out, first, head),
+        Err(fault) => first.fault(out, fault.number()),
     }
-    first.fault(out, head.answer)
 }
 
 // The whole listing.

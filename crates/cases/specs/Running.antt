@@ -1,10 +1,10 @@
 -- What a case of document 01's "Reckoned by hand" is, and when it is right: each step is given to the module, and the
 -- answer's number and value are those that the case expects; at the end, so are the pulses admitted. Assumes nothing.
-use Rattle.std.specs.Prelude.{ℕ, suc, ◌+◌, ◌-◌, ◌%◌, ◌^◌, Bool, cond, ◌&&◌, Option, Some, None, is_none, List, [], ◌∷◌, ◌++◌, length, take, replicate, ◌==◌}
+use Rattle.std.specs.Prelude.{ℕ, suc, ◌+◌, ◌-◌, ◌%◌, ◌^◌, Bool, cond, ◌&&◌, Result, Ok, Err, Option, Some, None, is_none, List, [], ◌∷◌, ◌++◌, length, take, replicate, ◌==◌}
 use Rattle.benchlog.specs.declared.Entry.{Entry}
 use Rattle.benchlog.specs.declared.Entry.TheVariants as entry
 use Rattle.benchlog.specs.declared.Numeral.{Numeral}
-use Rattle.benchlog.specs.declared.Numeral.TheVariants.{Value, Refused}
+use Rattle.benchlog.specs.declared.Refused.{Refused}
 use Rattle.benchlog.specs.Faults.{fault_number}
 use Rattle.benchlog.specs.Number.{number_at}
 use Rattle.bus.specs.declared.Reply.{Reply}
@@ -23,9 +23,9 @@ use Rattle.cases.specs.declared.Step.{Step}
 use Rattle.cases.specs.declared.Step.TheVariants.{Gives, Reads}
 
 -- a number that the log reader reads, or its refusal, with value 0
-abbrev pub reply_of_numeral : Numeral → Reply
-reply_of_numeral (Value value place) = record { number = 0; value = value }
-reply_of_numeral (Refused fault place) = record { number = fault_number fault; value = 0 }
+abbrev pub reply_of_numeral : Result Numeral Refused → Reply
+reply_of_numeral (Ok read) = record { number = 0; value = read.value }
+reply_of_numeral (Err refused) = record { number = fault_number refused.fault; value = 0 }
 
 -- the answer to a step
 abbrev pub replied : Bench → Memory → Step → Reply

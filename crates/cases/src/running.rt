@@ -6,7 +6,7 @@ ghost use Rattle.cases.specs.Running.{reply_of_numeral, inhibits, pulses_in, adm
 ghost use Rattle.cases.specs.declared.Step.TheVariants.{Gives};
 
 use crate::{Case, Line, Step};
-use benchlog::{Entry, Numeral};
+use benchlog::{Entry, Numeral, Refused};
 use bus::{Answer, Reply};
 use modules::{Held, Module};
 
@@ -18,13 +18,16 @@ struct Bench {
 }
 
 // The answer of the log reader.
-fn reply_of_numeral(numeral: Numeral) -> Reply
+fn reply_of_numeral(numeral: Result<Numeral, Refused>) -> Reply
     ensures { result ≡ reply_of_numeral numeral }
 {
     match numeral {
-        Numeral::Value(value, _) => Reply { number: 0, value },
-        Numeral::Refused(fault, _) => Reply {
-            number: benchlog::fault_number(fault),
+        Ok(read) => Reply {
+            number: 0,
+            value: read.value,
+        },
+        Err(refused) => Reply {
+            number: refused.fault.number(),
             value: 0,
         },
     }

@@ -12,16 +12,18 @@ fn listed(out: &mut [u8], l: Listing, e: Fields) -> Listing
 {
     let numbers = [
         l.place(l.used),
-        e.kind as u64,
-        e.first as u64,
-        e.second as u64,
-        e.third as u64,
+        u64::from(e.kind),
+        u64::from(e.first),
+        u64::from(e.second),
+        u64::from(e.third),
         l.place(e.place),
     ];
-    let mut after = l;
-    after.at = text::put_line(out, l.at, &numbers);
-    after.used = e.place;
-    after
+    let at = text::put_line(out, l.at, &numbers);
+    Listing {
+        at,
+        used: e.place,
+        ..l
+    }
 }
 
 // Lists the entry that comes next, or reads on, or ends the listing. A line has six numbers.
@@ -31,14 +33,14 @@ fn turn(rt: &HostRuntime, buf: &mut [u8], out: &mut [u8], before: Listing) -> Li
 {
     let l = before.make_room(rt, out, 126);
     let have = l.have;
-    let e = benchlog::numbers_of(benchlog::read_entry(&buf[..have], l.used));
-    if e.answer == 0 {
-        return listed(out, l, e);
+    let read = benchlog::read_entry(&buf[..have], l.used);
+    match read {
+        Ok(_) => listed(out, l, benchlog::numbers_of(read)),
+        Err(refused) if !l.ended && refused.fault == Fault::Ends => {
+            l.flush(rt, out).read_on(rt, buf)
+        }
+        Err(refused) => l.end(out, refused.fault.number()),
     }
-    if !l.ended && e.answer == benchlog::fault_number(Fault::Ends) {
-        return l.flush(rt, out).read_on(rt, buf);
-    }
-    l.end(out, e.answer)
 }
 
 // The whole listing.

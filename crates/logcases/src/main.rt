@@ -1,103 +1,71 @@
 #![tactic(auto)]
 
 // Reads many small logs in one run and shows what the log reader answers at each place.
-ghost use Rattle.std.specs.Prelude.{◌≡◌, ◌≤◌, length};
+ghost use Rattle.std.specs.Prelude.{◌≡◌, ◌≤◌, length, IfOk};
 
-use benchlog::{Fault, Fields, Numeral};
+use benchlog::{Fault, Fields, Numeral, Reading, Refused};
 use stdio::Listing;
 
-// A numeral as numbers: 0, its value and the place after it, or the refusal's number, 0 and the place
-// that was given.
-#[derive(Clone, Copy)]
-struct Number {
-    answer: u32,
-    value: u32,
-    after: usize,
-}
-
-// A case: 0, or a refusal's number; its start, and where its bytes stand.
+// A case: its start, and where its bytes stand.
 #[derive(Clone, Copy)]
 struct Case {
-    answer: u32,
     start: usize,
     from: usize,
     to: usize,
 }
 
-// The numbers of a numeral.
-fn numbered(numeral: Numeral) -> Number {
+// A numeral as numbers: 0, its value and the place after it, or the refusal's number, 0 and the place
+// that was given.
+fn numbers_of(numeral: Result<Numeral, Refused>) -> [u64; 3] {
     match numeral {
-        Numeral::Value(value, after) => Number {
-            answer: 0,
-            value,
-            after,
-        },
-        Numeral::Refused(fault, place) => Number {
-            answer: benchlog::fault_number(fault),
-            value: 0,
-            after: place,
-        },
-    }
-}
-
-// A case that is refused.
-fn refused(answer: u32) -> Case
-    ensures { (result.from ≤ 0) × (result.to ≤ 0) }
-{
-    Case {
-        answer,
-        start: 0,
-        from: 0,
-        to: 0,
+        Ok(Numeral { value, next }) => [0, u64::from(value), next as u64],
+        Err(Refused { fault, place }) => [u64::from(fault.number()), 0, place as u64],
     }
 }
 
 // The case at a place.
-fn read_case(input: &[u8], at: usize) -> Case
-    ensures { (result.from ≤ result.to) × (result.to ≤ length input.now) }
+fn read_case(input: &[u8], at: usize) -> Result<Case, Fault>
+    ensures { IfOk result (λ c. (c.from ≤ c.to) × (c.to ≤ length input.now)) }
 {
-    let start = numbered(benchlog::read_argument(input, at, 65535));
-    if start.answer != 0 {
-        return refused(start.answer);
-    }
-    let bytes = numbered(benchlog::read_argument(input, start.after, 60000));
-    if bytes.answer != 0 {
-        return refused(bytes.answer);
-    }
-    let from = bytes.after;
+    let start = benchlog::read_argument(input, at, 65535)?;
+    let bytes = benchlog::read_argument(input, start.next, 60000)?;
+    let from = bytes.next;
     let many = bytes.value as usize;
-    if from > input.len() {
-        return refused(benchlog::fault_number(Fault::Ends));
+    if from > input.len() || many > input.len() - from {
+        return Err(Fault::Ends);
     }
-    if many > input.len() - from {
-        return refused(benchlog::fault_number(Fault::Ends));
-    }
-    Case {
-        answer: 0,
+    Ok(Case {
         start: start.value as usize,
         from,
         to: from + many,
-    }
+    })
 }
 
 // Puts the line of a call.
-fn put_call(rt: &HostRuntime, out: &mut [u8], before: Listing, e: Fields, n: Number) -> Listing
+fn put_call(
+    rt: &HostRuntime,
+    out: &mut [u8],
+    before: Listing,
+    e: Fields,
+    numeral: Result<Numeral, Refused>,
+) -> Listing
     ensures { result.have ≡ before.have }
 {
+    let [answer, value, after] = numbers_of(numeral);
     let numbers = [
-        e.answer as u64,
-        e.kind as u64,
-        e.first as u64,
-        e.second as u64,
-        e.third as u64,
+        u64::from(e.answer),
+        u64::from(e.kind),
+        u64::from(e.first),
+        u64::from(e.second),
+        u64::from(e.third),
         e.place as u64,
-        n.answer as u64,
-        n.value as u64,
-        n.after as u64,
+        answer,
+        value,
+        after,
     ];
-    let mut l = before.make_room(rt, out, 189);
-    l.at = text::put_line(out, l.at, &numbers);
-    l
+    let l = before.make_room(rt, out, 189);
+    let at = text::put_line(out, l.at, &numbers);
+    Listing { at, ..l }
 }
 
 // Puts the lines of a case. A log of n bytes has at most n entries, and a refusal behind them.
@@ -106,14 +74,14 @@ fn put_case(rt: &HostRuntime, log: &[u8], start: usize, out: &mut [u8], before: 
 {
     let mut place = start;
     let mut l = before;
-    let mut answer = 0;
-    let mut i = 0;
-    while i <= log.len() && answer == 0 {
-        let e = benchlog::numbers_of(benchlog::read_entry(log, place));
-        l = put_call(rt, out, l, e, numbered(benchlog::read_number(log, place)));
-        answer = e.answer;
-        place = e.place;
-        i += 1;
+    for _ in 0..=log.len() {
+        let read = benchlog::read_entry(log, place);
+        let number = benchlog::read_number(log, place);
+        l = put_call(rt, out, l, benchlog::numbers_of(read), number);
+        let Ok(Reading { next, .. }) = read else {
+            break;
+        };
+        place = next;
     }
     l
 }
@@ -124,18 +92,16 @@ fn turn(rt: &HostRuntime, buf: &mut [u8], out: &mut [u8], l: Listing) -> Listing
     ensures { result.have ≤ length buf.old }
 {
     let have = l.have;
-    let c = read_case(&buf[..have], l.used);
-    if c.answer == 0 {
-        let from = c.from;
-        let to = c.to;
-        let mut after = put_case(rt, &buf[from..to], c.start, out, l);
-        after.used = to;
-        return after;
+    match read_case(&buf[..have], l.used) {
+        Ok(Case { start, from, to }) => {
+            let after = put_case(rt, &buf[from..to], start, out, l);
+            Listing { used: to, ..after }
+        }
+        Err(fault) if !l.ended && fault == Fault::Ends => {
+            l.flush(rt, out).read_on(rt, buf)
+        }
+        Err(fault) => l.make_room(rt, out, 48).end(out, fault.number()),
     }
-    if !l.ended && c.answer == benchlog::fault_number(Fault::Ends) {
-        return l.flush(rt, out).read_on(rt, buf);
-    }
-    l.make_room(rt, out, 48).end(out, c.answer)
 }
 
 // The whole listing.

@@ -103,11 +103,10 @@ fn write(buf: &[u8], out: &mut [u8], first: Listing, limits: [u32; 39]) -> Listi
         return first;
     }
     let have = first.have;
-    let head = head::read_head(&buf[..have], &limits);
-    if head.answer == 0 {
-        return put_block(out, first, head);
+    match head::read_head(&buf[..have], &limits) {
+        Ok(head) => put_block(out, first, head),
+        Err(fault) => first.fault(out, fault.number()),
     }
-    first.fault(out, head.answer)
 }
 
 // What is written.

@@ -5,7 +5,8 @@ use Rattle.std.proofs.Common.{◌≡◌, ℕ, zero, suc, ◌+◌, ◌%◌, ◌^�
 use lib.ListN.{length-replicate}
 use Rattle.benchlog.specs.declared.Entry.{Entry}
 use Rattle.benchlog.specs.declared.Reading.{Reading}
-use Rattle.benchlog.specs.declared.Reading.TheVariants as reading
+use Rattle.benchlog.specs.declared.Refused as refusal
+use Rattle.std.specs.Prelude.{Result, Ok, Err}
 use Rattle.benchlog.specs.Entries.{entry_at}
 use Rattle.std.specs.Prelude.{Ok}
 use Rattle.bus.specs.Answers.{number_of, value_of}
@@ -53,13 +54,13 @@ module _ (n : Night) (m k : Memory) (a : Alike n m k) (e : Entry) (bytes : ℕ) 
 -- one entry, where the lines behind it are the same, or none
 reading_alike : (last : Bool) (bytes : List ℕ) (n : Night) (m k : Memory) → Alike n m k → (f : Night → Memory → List ℕ → Run)
     → ((n₁ : Night) (m₁ k₁ : Memory) (b : List ℕ) → Alike n₁ m₁ k₁ → (f n₁ m₁ b).lines ≡ (f n₁ k₁ b).lines)
-    → (x : Reading) → (on_reading last bytes n m x f).lines ≡ (on_reading last bytes n k x f).lines
-reading_alike last bytes n m k a f go (reading.Entry e next) =
-    let m₁ : Memory = (stepped n m e).memory in
-    let k₁ : Memory = (stepped n k e).memory in
-    ap₂ (λ (l : Line) (ls : List Line). l ∷ ls) (one_line n m k a e next)
-    (go (onward n m e next) m₁ k₁ (drop next bytes) (stays_alike n m k a e next) ∙ ap (λ (x : Night). (f x k₁ (drop next bytes)).lines) (one_night n m k a e next))
-reading_alike last bytes n m k a f go (reading.Refused fault place) = stopped_lines last bytes fault n m k
+    → (x : Result Reading refusal.Refused) → (on_reading last bytes n m x f).lines ≡ (on_reading last bytes n k x f).lines
+reading_alike last bytes n m k a f go (Ok q) =
+    let m₁ : Memory = (stepped n m q.entry).memory in
+    let k₁ : Memory = (stepped n k q.entry).memory in
+    ap₂ (λ (l : Line) (ls : List Line). l ∷ ls) (one_line n m k a q.entry q.next)
+    (go (onward n m q.entry q.next) m₁ k₁ (drop q.next bytes) (stays_alike n m k a q.entry q.next) ∙ ap (λ (x : Night). (f x k₁ (drop q.next bytes)).lines) (one_night n m k a q.entry q.next))
+reading_alike last bytes n m k a f go (Err q) = stopped_lines last bytes q.fault n m k
 
 run_alike : (most : ℕ) (last : Bool) (bytes : List ℕ) (n : Night) (m k : Memory) → Alike n m k
     → (run_of most last bytes n m).lines ≡ (run_of most last bytes n k).lines

@@ -7,9 +7,10 @@ use lib.Seq.{drop-append-le}
 use Rattle.benchlog.specs.declared.Fault.{Fault}
 use Rattle.benchlog.specs.declared.Fault.TheVariants.{Ends}
 use Rattle.benchlog.specs.declared.Reading.{Reading}
-use Rattle.benchlog.specs.declared.Reading.TheVariants as reading
-use Rattle.benchlog.specs.Number.{number_at}
-use Rattle.benchlog.specs.Entries.{entry_at}
+use Rattle.benchlog.specs.declared.Refused as refusal
+use Rattle.std.specs.Prelude.{Result, Ok, Err}
+use Rattle.benchlog.specs.Number.{refused, number_at}
+use Rattle.benchlog.specs.Entries.{kind_and_arguments_at, entry_at}
 use Rattle.benchlog.specs.Faults.{fault_number}
 use Rattle.benchlog.specs.Fields.{fields_of}
 use Rattle.benchlog.proofs.Places.{picked, ReadingPlace, entry_place}
@@ -35,12 +36,12 @@ gone_on r bytes more = r.lines ++ following r.next (lines_of (drop r.used bytes 
 
 -- ---- more lines than bytes are enough: with more of them the run is the same
 -- two ways to go on that are the same for fewer bytes
-alike : (bytes : List ℕ) (n : Night) (memory : Memory) (x : Reading) → ReadingPlace bytes 0 x → (f g : Night → Memory → List ℕ → Run)
+alike : (bytes : List ℕ) (n : Night) (memory : Memory) (x : Result Reading refusal.Refused) → ReadingPlace bytes 0 x → (f g : Night → Memory → List ℕ → Run)
     → ((n₁ : Night) (m₁ : Memory) (next : ℕ) → 0 < next → next ≤ length bytes → f n₁ m₁ (drop next bytes) ≡ g n₁ m₁ (drop next bytes))
     → on_reading true bytes n memory x f ≡ on_reading true bytes n memory x g
-alike bytes n memory (reading.Entry e next) b f g h =
-    ap (before (line_of (taken_of n memory e next)) next) (h (onward n memory e next) (stepped n memory e).memory next b.0 b.1)
-alike bytes n memory (reading.Refused fault place) b f g h = refl
+alike bytes n memory (Ok q) b f g h =
+    ap (before (line_of (taken_of n memory q.entry q.next)) q.next) (h (onward n memory q.entry q.next) (stepped n memory q.entry).memory q.next b.0 b.1)
+alike bytes n memory (Err q) b f g h = refl
 
 pub enough : (k j : ℕ) (bytes : List ℕ) (n : Night) (memory : Memory) → length bytes < k → length bytes < j → run_of k true bytes n memory ≡ run_of j true bytes n memory
 unfolding run_of
@@ -52,12 +53,12 @@ enough (suc k) (suc j) bytes n memory p q =
 
 -- ---- where no entry can be read
 -- of no bytes nothing is read but that the log ends
-none : (bytes : List ℕ) (f : Fault) (p : ℕ) → entry_at bytes 0 ≡ reading.Refused f p → eqb (fault_number f) (fault_number Ends) ≡ false → length bytes ≡ 0 → ⊥
-unfolding entry_at number_at
-none [] f p e t z = eqb-false (fault_number f) (fault_number Ends) t (sym (ap (λ (r : Reading). (fields_of r).answer) e))
+none : (bytes : List ℕ) (f : Fault) (p : ℕ) → entry_at bytes 0 ≡ refused f p → eqb (fault_number f) (fault_number Ends) ≡ false → length bytes ≡ 0 → ⊥
+unfolding entry_at kind_and_arguments_at number_at
+none [] f p e t z = eqb-false (fault_number f) (fault_number Ends) t (sym (ap (λ (r : Result Reading refusal.Refused). (fields_of r).answer) e))
 none (b ∷ bs) f p e t z = absurd (omega arith)
 
-module _ (more bytes : List ℕ) (f : Fault) (p : ℕ) (n : Night) (memory : Memory) (e : entry_at bytes 0 ≡ reading.Refused f p) (k : ℕ) where
+module _ (more bytes : List ℕ) (f : Fault) (p : ℕ) (n : Night) (memory : Memory) (e : entry_at bytes 0 ≡ refused f p) (k : ℕ) where
   -- nothing follows
   stopped_last : more ≡ [] → (run_of (suc k) true (bytes ++ more) n memory).lines ≡ gone_on (stopped_at true bytes f n memory) bytes more
   unfolding run_of
@@ -74,7 +75,7 @@ module _ (more bytes : List ℕ) (f : Fault) (p : ℕ) (n : Night) (memory : Mem
   unfolding run_of
   stopped_stays t =
       rw (
-        fault_stays bytes more 0 f p e t,
+        fault_stays bytes more 0 (record { fault = f; place = p }) e t,
         t,
         ne_eqb (length bytes) 0 (none bytes f p e t),
         ne_eqb (length (bytes ++ more)) 0 (λ z. none bytes f p e t (omega (arith, length-append bytes more))),
@@ -95,15 +96,15 @@ module _ (more : List ℕ) (last : Bool) (h : last ≡ true → more ≡ []) whe
   reading_continued : (bytes : List ℕ) (n : Night) (memory : Memory) (k : ℕ) → length (bytes ++ more) < suc k → (f : Night → Memory → List ℕ → Run)
       → ((n₁ : Night) (m₁ : Memory) (next : ℕ) → 0 < next → next ≤ length bytes
       → (run_of k true (drop next bytes ++ more) n₁ m₁).lines ≡ gone_on (f n₁ m₁ (drop next bytes)) (drop next bytes) more)
-      → (x : Reading) → entry_at bytes 0 ≡ x → ReadingPlace bytes 0 x
+      → (x : Result Reading refusal.Refused) → entry_at bytes 0 ≡ x → ReadingPlace bytes 0 x
       → (run_of (suc k) true (bytes ++ more) n memory).lines ≡ gone_on (on_reading last bytes n memory x f) bytes more
   unfolding run_of
-  reading_continued bytes n memory k l f go (reading.Entry e next) x b =
-      let n₁ : Night = onward n memory e next in
-      let m₁ : Memory = (stepped n memory e).memory in
-      rw (entry_stays bytes more 0 e next x, drop-append-le next bytes more b.1, ← drop-drop (f n₁ m₁ (drop next bytes)).used next bytes)
-      (ap (λ (ls : List Line). line_of (taken_of n memory e next) ∷ ls) (go n₁ m₁ next b.0 b.1))
-  reading_continued bytes n memory k l f go (reading.Refused fault place) x b = stopped more bytes fault place n memory x k last h l
+  reading_continued bytes n memory k l f go (Ok q) x b =
+      let n₁ : Night = onward n memory q.entry q.next in
+      let m₁ : Memory = (stepped n memory q.entry).memory in
+      rw (entry_stays bytes more 0 q x, drop-append-le q.next bytes more b.1, ← drop-drop (f n₁ m₁ (drop q.next bytes)).used q.next bytes)
+      (ap (λ (ls : List Line). line_of (taken_of n memory q.entry q.next) ∷ ls) (go n₁ m₁ q.next b.0 b.1))
+  reading_continued bytes n memory k l f go (Err q) x b = stopped more bytes q.fault q.place n memory x k last h l
 
   -- ---- the law: whatever is left to show when a run stops is what follows its lines
   pub continued : (most k : ℕ) (bytes : List ℕ) (n : Night) (memory : Memory) → length (bytes ++ more) < k

@@ -4,7 +4,8 @@
 use Rattle.std.proofs.Common.{◌≡◌, ℕ, zero, suc, ◌+◌, ◌/◌, ◌<◌, Bool, true, not, ◌&&◌, eqb, List, [], ◌∷◌, ◌++◌, length, drop, refl, ap, ◌∙◌, arith, length-append, length-drop}
 use Rattle.benchlog.specs.declared.Fault.TheVariants.{Ends}
 use Rattle.benchlog.specs.declared.Reading.{Reading}
-use Rattle.benchlog.specs.declared.Reading.TheVariants as reading
+use Rattle.benchlog.specs.declared.Refused as refusal
+use Rattle.std.specs.Prelude.{Result, Ok, Err}
 use Rattle.benchlog.specs.Entries.{entry_at}
 use Rattle.benchlog.specs.Faults.{fault_number}
 use Rattle.benchlog.proofs.Places.{picked, ReadingPlace, entry_place}
@@ -40,11 +41,11 @@ always (Faulted number) P r p = tt
 always (Refused why) P r p = r
 
 reading_next : (last : Bool) (bytes : List ℕ) (n : Night) (memory : Memory) (f : Night → Memory → List ℕ → Run)
-    → ((n₁ : Night) (m₁ : Memory) (b : List ℕ) → NotRefused (f n₁ m₁ b).next) → (x : Reading) → NotRefused (on_reading last bytes n memory x f).next
-reading_next last bytes n memory f h (reading.Entry e next) = h (onward n memory e next) (stepped n memory e).memory (drop next bytes)
-reading_next last bytes n memory f h (reading.Refused fault place) =
+    → ((n₁ : Night) (m₁ : Memory) (b : List ℕ) → NotRefused (f n₁ m₁ b).next) → (x : Result Reading refusal.Refused) → NotRefused (on_reading last bytes n memory x f).next
+reading_next last bytes n memory f h (Ok q) = h (onward n memory q.entry q.next) (stepped n memory q.entry).memory (drop q.next bytes)
+reading_next last bytes n memory f h (Err q) =
     let P : Run → Type 0 = λ r. NotRefused r.next in
-    picked P (not last && eqb (fault_number fault) (fault_number Ends)) (λ t. tt) (picked P (eqb (length bytes) 0) (λ t. tt) tt)
+    picked P (not last && eqb (fault_number q.fault) (fault_number Ends)) (λ t. tt) (picked P (eqb (length bytes) 0) (λ t. tt) tt)
 
 run_next : (most : ℕ) (last : Bool) (bytes : List ℕ) (n : Night) (memory : Memory) → NotRefused (run_of most last bytes n memory).next
 unfolding run_of
@@ -57,13 +58,13 @@ abbrev Takes : List ℕ → Run → Type 0
 Takes bytes r = UnlessOver r.next (length (drop r.used bytes) < length bytes)
 
 reading_takes : (bytes : List ℕ) (n : Night) (memory : Memory) (f : Night → Memory → List ℕ → Run)
-    → ((n₁ : Night) (m₁ : Memory) (b : List ℕ) → NotRefused (f n₁ m₁ b).next) → (x : Reading) → ReadingPlace bytes 0 x
+    → ((n₁ : Night) (m₁ : Memory) (b : List ℕ) → NotRefused (f n₁ m₁ b).next) → (x : Result Reading refusal.Refused) → ReadingPlace bytes 0 x
     → Takes bytes (on_reading true bytes n memory x f)
-reading_takes bytes n memory f h (reading.Entry e next) b =
-    let r : Run = f (onward n memory e next) (stepped n memory e).memory (drop next bytes) in
-    always r.next (length (drop (next + r.used) bytes) < length bytes) (h (onward n memory e next) (stepped n memory e).memory (drop next bytes))
-    (omega (arith, length-drop (next + r.used) bytes))
-reading_takes bytes n memory f h (reading.Refused fault place) b = picked (Takes bytes) (eqb (length bytes) 0) (λ z. tt) tt
+reading_takes bytes n memory f h (Ok q) b =
+    let r : Run = f (onward n memory q.entry q.next) (stepped n memory q.entry).memory (drop q.next bytes) in
+    always r.next (length (drop (q.next + r.used) bytes) < length bytes) (h (onward n memory q.entry q.next) (stepped n memory q.entry).memory (drop q.next bytes))
+    (omega (arith, length-drop (q.next + r.used) bytes))
+reading_takes bytes n memory f h (Err q) b = picked (Takes bytes) (eqb (length bytes) 0) (λ z. tt) tt
 
 run_takes : (most : ℕ) (last : Bool) (bytes : List ℕ) (n : Night) (memory : Memory) → last ≡ true → 0 < most → Takes bytes (run_of most last bytes n memory)
 unfolding run_of

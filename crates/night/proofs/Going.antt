@@ -5,11 +5,12 @@ use Rattle.benchlog.specs.declared.Entry.{Entry}
 use Rattle.benchlog.specs.declared.Fault.{Fault}
 use Rattle.benchlog.specs.declared.Fault.TheVariants.{Ends}
 use Rattle.benchlog.specs.declared.Reading.{Reading}
-use Rattle.benchlog.specs.declared.Reading.TheVariants as reading
+use Rattle.benchlog.specs.declared.Refused as refusal
+use Rattle.std.specs.Prelude.{Result, Ok, Err}
 use Rattle.benchlog.specs.Entries.{entry_at}
 use Rattle.benchlog.specs.Faults.{fault_number}
+use Rattle.benchlog.specs.Number.{refused}
 use Rattle.benchlog.proofs.Places.{entry_place}
-use Rattle.std.specs.Prelude.{Ok, Err}
 use Rattle.bus.specs.Answers.{Answer}
 use Rattle.meb.specs.Ring.{Memory, lent}
 use Rattle.text.specs.Line.{line, fault_line, fault_word, put_in, after_in}
@@ -105,29 +106,29 @@ module _ (last : Bool) (bytes : List ℕ) (fault : Fault) (n : Night) where
 
 -- where no entry can be read a run stops
 run_stops : (left : ℕ) → 0 < left → (last : Bool) (bytes : List ℕ) (n : Night) (memory : Memory) (fault : Fault) (place : ℕ)
-    → entry_at bytes 0 ≡ reading.Refused fault place → run_of left last bytes n memory ≡ stopped_at last bytes fault n memory
+    → entry_at bytes 0 ≡ refused fault place → run_of left last bytes n memory ≡ stopped_at last bytes fault n memory
 unfolding run_of
 run_stops zero h last bytes n memory fault place r = absurd (omega arith)
 run_stops (suc left) h last bytes n memory fault place r =
-    ap (λ (x : Reading). on_reading last bytes n memory x (λ n₂ memory₂ bytes₂. run_of left last bytes₂ n₂ memory₂)) r
+    ap (λ (x : Result Reading refusal.Refused). on_reading last bytes n memory x (λ n₂ memory₂ bytes₂. run_of left last bytes₂ n₂ memory₂)) r
 
 pub run_fits : (most : ℕ) (last : Bool) (bytes : List ℕ) (n : Night) (memory : Memory) → length (text (run_of most last bytes n memory).lines) ≤ 63 * most
 unfolding run_of text
 run_fits zero last bytes n memory = omega arith
 run_fits (suc most) last bytes n memory = go (entry_at bytes 0) (λ bytes₁ n₁ memory₁. run_fits most last bytes₁ n₁ memory₁)
   where
-    go : (r : Reading)
+    go : (r : Result Reading refusal.Refused)
         → ((bytes₁ : List ℕ) (n₁ : Night) (memory₁ : Memory) → length (text (run_of most last bytes₁ n₁ memory₁).lines) ≤ 63 * most)
         → length (text (on_reading last bytes n memory r (λ n₁ memory₁ bytes₁. run_of most last bytes₁ n₁ memory₁)).lines) ≤ 63 * suc most
-    go (reading.Entry e next) h =
-        let l : Line = line_of (taken_of n memory e next) in
-        let rest : Run = run_of most last (drop next bytes) (onward n memory e next) (stepped n memory e).memory in
-        omega (arith, text_cons l rest.lines, line_fits l, h (drop next bytes) (onward n memory e next) (stepped n memory e).memory)
-    go (reading.Refused fault place) h = omega (arith, stopped_fits last bytes fault n memory)
+    go (Ok q) h =
+        let l : Line = line_of (taken_of n memory q.entry q.next) in
+        let rest : Run = run_of most last (drop q.next bytes) (onward n memory q.entry q.next) (stepped n memory q.entry).memory in
+        omega (arith, text_cons l rest.lines, line_fits l, h (drop q.next bytes) (onward n memory q.entry q.next) (stepped n memory q.entry).memory)
+    go (Err q) h = omega (arith, stopped_fits last bytes q.fault n memory)
 
 -- an entry ends in the bytes that it is read of
-pub within : (bytes : List ℕ) (e : Entry) (next : ℕ) → entry_at bytes 0 ≡ reading.Entry e next → next ≤ length bytes
-within bytes e next r = (rw r at (entry_place bytes 0)).1
+pub within : (bytes : List ℕ) (q : Reading) → entry_at bytes 0 ≡ Ok q → q.next ≤ length bytes
+within bytes q r = (rw r at (entry_place bytes 0)).1
 
 -- a run uses no more bytes than there are
 pub run_used : (most : ℕ) (last : Bool) (bytes : List ℕ) (n : Night) (memory : Memory) → (run_of most last bytes n memory).used ≤ length bytes
@@ -135,13 +136,13 @@ unfolding run_of
 run_used zero last bytes n memory = omega arith
 run_used (suc most) last bytes n memory = go (entry_at bytes 0) refl (λ bytes₁ n₁ memory₁. run_used most last bytes₁ n₁ memory₁)
   where
-    go : (r : Reading) → entry_at bytes 0 ≡ r
+    go : (r : Result Reading refusal.Refused) → entry_at bytes 0 ≡ r
         → ((bytes₁ : List ℕ) (n₁ : Night) (memory₁ : Memory) → (run_of most last bytes₁ n₁ memory₁).used ≤ length bytes₁)
         → (on_reading last bytes n memory r (λ n₁ memory₁ bytes₁. run_of most last bytes₁ n₁ memory₁)).used ≤ length bytes
-    go (reading.Entry e next) r h =
-        omega (arith, within bytes e next r, length-drop next bytes, h (drop next bytes) (onward n memory e next) (stepped n memory e).memory)
-    go (reading.Refused fault place) r h =
-        stopped (λ (x : Run). x.used ≤ length bytes) last bytes fault n memory (omega arith) (omega arith) (omega arith)
+    go (Ok q) r h =
+        omega (arith, within bytes q r, length-drop q.next bytes, h (drop q.next bytes) (onward n memory q.entry q.next) (stepped n memory q.entry).memory)
+    go (Err q) r h =
+        stopped (λ (x : Run). x.used ≤ length bytes) last bytes q.fault n memory (omega arith) (omega arith) (omega arith)
 
 -- nor does what is replayed, refused or not
 pub part_used : (p : Part) (out : List ℕ) (last : Bool) (bytes : List ℕ) (n : Night) (memory : Memory) → p ≡ part_of (replay_for out last bytes n memory) → p.used ≤ length bytes
@@ -170,7 +171,7 @@ module _ {whole : Run} {out₀ log : List ℕ} {last : Bool} {used at : ℕ} {n 
   -- an entry is read and taken: its line is put, and the rest stands behind it
   one : (left : ℕ) (e : Entry) (bytes at₁ : ℕ) (out₁ : List ℕ)
       → Going whole out₀ log last (suc left) used at n memory out
-      → entry_at (drop used log) 0 ≡ reading.Entry e bytes
+      → entry_at (drop used log) 0 ≡ Ok (record { entry = e; next = bytes })
       → at₁ ≡ at + length (text_of (line_of (taken_of n memory e bytes)))
       → out₁ ≡ put out at (text_of (line_of (taken_of n memory e bytes)))
       → Going whole out₀ log last left (used + bytes) at₁ (onward n memory e bytes) (stepped n memory e).memory out₁
@@ -181,7 +182,7 @@ module _ {whole : Run} {out₀ log : List ℕ} {last : Bool} {used at : ℕ} {n 
       let m₁ : Memory = (stepped n memory e).memory in
       let rest : Run = run_of left last (drop bytes (drop used log)) n₁ m₁ in
       let f : run_of (suc left) last (drop used log) n memory ≡ before l bytes rest =
-      ap (λ (x : Reading). on_reading last (drop used log) n memory x (λ n₂ memory₂ bytes₂. run_of left last bytes₂ n₂ memory₂)) r in
+      ap (λ (x : Result Reading refusal.Refused). on_reading last (drop used log) n memory x (λ n₂ memory₂ bytes₂. run_of left last bytes₂ n₂ memory₂)) r in
       let d : run_of left last (drop (used + bytes) log) n₁ m₁ ≡ rest =
       ap (λ (b : List ℕ). run_of left last b n₁ m₁) (sym (drop-drop bytes used log)) in
       let fits : length (text rest.lines) ≤ 63 * left = run_fits left last (drop bytes (drop used log)) n₁ m₁ in
@@ -189,7 +190,7 @@ module _ {whole : Run} {out₀ log : List ℕ} {last : Bool} {used at : ℕ} {n 
       record {
         len = ap length q ∙ length_put out at (text_of l) ends ∙ g.len;
         room = omega (arith, ap length q, length_put out at (text_of l) ends, g.room, line_fits l, p);
-        in_log = omega (arith, within (drop used log) e bytes r, length-drop used log, g.in_log);
+        in_log = omega (arith, within (drop used log) (record { entry = e; next = bytes }) r, length-drop used log, g.in_log);
         part =
             g.part ∙ ap (part_behind used at) f
             ∙ ap₂ (λ (u a : ℕ). record { night = rest.night; used = u; at = a; next = rest.next }) (omega arith) (omega (arith, text_cons l rest.lines, p))
@@ -205,7 +206,7 @@ module _ {whole : Run} {out₀ log : List ℕ} {last : Bool} {used at : ℕ} {n 
   -- the same where `left` lines may come: t is what taking the entry gave, m₁ the lent words then
   pub again : (left : ℕ) (e : Entry) (bytes : ℕ) (t : Taken) (m₁ : Memory) (end : ℕ) (out₁ : List ℕ) → 0 < left
       → Going whole out₀ log last left used at n memory out
-      → entry_at (drop used log) 0 ≡ reading.Entry e bytes
+      → entry_at (drop used log) 0 ≡ Ok (record { entry = e; next = bytes })
       → t ≡ taken_of n memory e bytes → m₁ ≡ (stepped n memory e).memory
       → end ≡ after_in 63 out at (text_of (line_of t)) → out₁ ≡ put_in 63 out at (text_of (line_of t))
       → Going whole out₀ log last (left - 1) (used + bytes) end t.night m₁ out₁
@@ -221,7 +222,7 @@ module _ {whole : Run} {out₀ log : List ℕ} {last : Bool} {used at : ℕ} {n 
 
   -- no entry can be read: the run ends as `stopped_at` says, which leaves the lent words
   module _ (left : ℕ) (h : 0 < left) (g : Going whole out₀ log last left used at n memory out) (fault : Fault) (place : ℕ)
-      (r : entry_at (drop used log) 0 ≡ reading.Refused fault place) where
+      (r : entry_at (drop used log) 0 ≡ refused fault place) where
     stops : run_of left last (drop used log) n memory ≡ stopped_at last (drop used log) fault n memory
     stops = run_stops left h last (drop used log) n memory fault place r
 

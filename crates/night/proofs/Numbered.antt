@@ -3,7 +3,8 @@
 use Rattle.std.proofs.Common.{◌≡◌, ℕ, zero, suc, ◌%◌, ◌^◌, Bool, true, not, ◌&&◌, eqb, List, length, drop, refl, arith}
 use Rattle.benchlog.specs.declared.Fault.TheVariants.{Ends}
 use Rattle.benchlog.specs.declared.Reading.{Reading}
-use Rattle.benchlog.specs.declared.Reading.TheVariants as reading
+use Rattle.benchlog.specs.declared.Refused as refusal
+use Rattle.std.specs.Prelude.{Result, Ok, Err}
 use Rattle.benchlog.specs.Entries.{entry_at}
 use Rattle.benchlog.specs.Faults.{fault_number}
 use Rattle.benchlog.proofs.Places.{picked}
@@ -15,12 +16,12 @@ use Rattle.night.specs.Runs.{Run, on_reading, run_of, fresh_words, listing}
 -- one entry, where the lines behind it are numbered, or none
 reading_numbered : (k : ℕ) (last : Bool) (bytes : List ℕ) (n : Night) (memory : Memory) → n.entries ≡ k % 2 ^ 64 → (f : Night → Memory → List ℕ → Run)
     → ((n₁ : Night) (m₁ : Memory) (b : List ℕ) → n₁.entries ≡ suc k % 2 ^ 64 → NumberedFrom (suc k) (f n₁ m₁ b).lines)
-    → (x : Reading) → NumberedFrom k (on_reading last bytes n memory x f).lines
-reading_numbered k last bytes n memory e f go (reading.Entry entry next) =
-    (omega arith, go (onward n memory entry next) (stepped n memory entry).memory (drop next bytes) (omega arith))
-reading_numbered k last bytes n memory e f go (reading.Refused fault place) =
+    → (x : Result Reading refusal.Refused) → NumberedFrom k (on_reading last bytes n memory x f).lines
+reading_numbered k last bytes n memory e f go (Ok q) =
+    (omega arith, go (onward n memory q.entry q.next) (stepped n memory q.entry).memory (drop q.next bytes) (omega arith))
+reading_numbered k last bytes n memory e f go (Err q) =
     let P : Run → Type 0 = λ r. NumberedFrom k r.lines in
-    picked P (not last && eqb (fault_number fault) (fault_number Ends)) (λ t. tt) (picked P (eqb (length bytes) 0) (λ t. tt) refl)
+    picked P (not last && eqb (fault_number q.fault) (fault_number Ends)) (λ t. tt) (picked P (eqb (length bytes) 0) (λ t. tt) refl)
 
 -- every run of a night that has taken k entries
 pub run_numbered : (most : ℕ) (last : Bool) (bytes : List ℕ) (n : Night) (memory : Memory) (k : ℕ) → n.entries ≡ k % 2 ^ 64

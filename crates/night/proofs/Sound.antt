@@ -5,7 +5,8 @@ use mathlib.Core.Bool.{false≢true}
 use Rattle.benchlog.specs.declared.Entry.{Entry}
 use Rattle.benchlog.specs.declared.Fault.TheVariants.{Ends}
 use Rattle.benchlog.specs.declared.Reading.{Reading}
-use Rattle.benchlog.specs.declared.Reading.TheVariants as reading
+use Rattle.benchlog.specs.declared.Refused as refusal
+use Rattle.std.specs.Prelude.{Result, Ok, Err}
 use Rattle.benchlog.specs.Entries.{entry_at}
 use Rattle.benchlog.specs.Faults.{fault_number}
 use Rattle.benchlog.proofs.Places.{picked}
@@ -34,7 +35,7 @@ pub step_sound : (n : Night) (memory : Memory) (e : Entry) (bytes : ℕ) → Sou
 step_sound n memory e bytes s = (formed_stays n.v830 memory (call830_of e) s.0, sound_stays n.v830 memory (call830_of e) s.1)
 
 -- the same where t is what taking the entry gave, ws the lent words then
-pub taken_sound : (n : Night) (memory : Memory) (e : Entry) (bytes : ℕ) (t : Taken) (ws : List ℕ) (x : Reading) → x ≡ reading.Entry e bytes → Sound n memory
+pub taken_sound : (n : Night) (memory : Memory) (e : Entry) (bytes : ℕ) (t : Taken) (ws : List ℕ) (x : Result Reading refusal.Refused) → x ≡ Ok (record { entry = e; next = bytes }) → Sound n memory
     → t ≡ taken_of n memory e bytes → ws ≡ (stepped n memory e).memory.words → Sound t.night (lent ws)
 taken_sound n memory e bytes t ws x r s p q =
     let k = step_sound n memory e bytes s in
@@ -57,12 +58,12 @@ sound_gate n memory s = rw (s.0, eq-eqb (length memory.words) n.v830.store.capac
 -- ---- a run leaves it so
 reading_sound : (last : Bool) (bytes : List ℕ) (n : Night) (memory : Memory) → Sound n memory → (f : Night → Memory → List ℕ → Run)
     → ((n₁ : Night) (m₁ : Memory) (b : List ℕ) → Sound n₁ m₁ → Sound (f n₁ m₁ b).night (f n₁ m₁ b).memory)
-    → (x : Reading) → Sound (on_reading last bytes n memory x f).night (on_reading last bytes n memory x f).memory
-reading_sound last bytes n memory s f go (reading.Entry e next) =
-    go (onward n memory e next) (stepped n memory e).memory (drop next bytes) (step_sound n memory e next s)
-reading_sound last bytes n memory s f go (reading.Refused fault place) =
+    → (x : Result Reading refusal.Refused) → Sound (on_reading last bytes n memory x f).night (on_reading last bytes n memory x f).memory
+reading_sound last bytes n memory s f go (Ok q) =
+    go (onward n memory q.entry q.next) (stepped n memory q.entry).memory (drop q.next bytes) (step_sound n memory q.entry q.next s)
+reading_sound last bytes n memory s f go (Err q) =
     let P : Run → Type 0 = λ r. Sound r.night r.memory in
-    picked P (not last && eqb (fault_number fault) (fault_number Ends)) (λ t. s) (picked P (eqb (length bytes) 0) (λ t. s) s)
+    picked P (not last && eqb (fault_number q.fault) (fault_number Ends)) (λ t. s) (picked P (eqb (length bytes) 0) (λ t. s) s)
 
 pub run_sound : (most : ℕ) (last : Bool) (bytes : List ℕ) (n : Night) (memory : Memory) → Sound n memory
     → Sound (run_of most last bytes n memory).night (run_of most last bytes n memory).memory

@@ -1,10 +1,10 @@
 -- The run of a log, a part of it or the whole, and its listing (document 02, M-100; docs/FORMATS.md, `replay`).
 -- Assumes nothing.
-use Rattle.std.specs.Prelude.{ℕ, zero, suc, ◌+◌, ◌/◌, Bool, true, cond, not, ◌&&◌, List, [], ◌∷◌, length, drop, replicate, ◌==◌, Ok, Err}
+use Rattle.std.specs.Prelude.{ℕ, zero, suc, ◌+◌, ◌/◌, Bool, true, cond, not, ◌&&◌, List, [], ◌∷◌, length, drop, replicate, ◌==◌, Result, Ok, Err}
 use Rattle.benchlog.specs.declared.Fault.{Fault}
 use Rattle.benchlog.specs.declared.Fault.TheVariants.{Ends}
 use Rattle.benchlog.specs.declared.Reading.{Reading}
-use Rattle.benchlog.specs.declared.Reading.TheVariants as reading
+use Rattle.benchlog.specs.declared.Refused as refusal
 use Rattle.benchlog.specs.Entries.{entry_at}
 use Rattle.benchlog.specs.Faults.{fault_number}
 use Rattle.night.specs.declared.Night.{Night}
@@ -42,10 +42,11 @@ stopped_at last bytes fault n memory =
     (ends_here (Faulty (fault_number fault) n.place ∷ []) (Faulted (fault_number fault)) n memory))
 
 -- an entry is read, or none
-abbrev pub on_reading : Bool → List ℕ → Night → Memory → Reading → (Night → Memory → List ℕ → Run) → Run
-on_reading last bytes n memory (reading.Entry e next) rest =
-    before (line_of (taken_of n memory e next)) next (rest (onward n memory e next) (stepped n memory e).memory (drop next bytes))
-on_reading last bytes n memory (reading.Refused fault place) rest = stopped_at last bytes fault n memory
+abbrev pub on_reading : Bool → List ℕ → Night → Memory → Result Reading refusal.Refused → (Night → Memory → List ℕ → Run) → Run
+on_reading last bytes n memory (Ok r) rest =
+    before (line_of (taken_of n memory r.entry r.next)) r.next
+    (rest (onward n memory r.entry r.next) (stepped n memory r.entry).memory (drop r.next bytes))
+on_reading last bytes n memory (Err r) rest = stopped_at last bytes r.fault n memory
 
 -- at most so many lines of the bytes at hand, which are the log's last ones or not
 unfoldable pub run_of : ℕ → Bool → List ℕ → Night → Memory → Run

@@ -122,15 +122,15 @@ fn run(night: Night, memory: &mut [u32], log: &[u8], last: bool, out: &mut [u8])
     let mut number = counted_to(night.entries);
     while left > 0 {
         match benchlog::read_entry(&log[used..], 0) {
-            Reading::Refused(fault, _) => {
-                return stop(now, &log[used..], last, fault, used, out, at);
+            Err(refused) => {
+                return stop(now, &log[used..], last, refused.fault, used, out, at);
             }
-            Reading::Entry(entry, bytes) => {
-                let taken = take(now, memory, entry, bytes);
+            Ok(Reading { entry, next }) => {
+                let taken = take(now, memory, entry, next);
                 now = taken.night;
                 number = counted_up(number);
                 at = put_entry(out, at, number, taken.answer, taken.value);
-                used += bytes;
+                used += next;
                 left -= 1;
             }
         }
@@ -157,7 +157,7 @@ fn stop(
     if rest.len() == 0 {
         return here(night, used, at, Next::Nothing);
     }
-    let number = benchlog::fault_number(fault);
+    let number = fault.number();
     let end = text::put_fault(out, at, number, night.place);
     here(night, used, end, Next::Faulted(number))
 }
@@ -166,10 +166,7 @@ fn stop(
 fn wants_bytes(last: bool, fault: Fault) -> bool
     ensures { result ≡ not last && (fault_number fault == fault_number Ends) }
 {
-    if last {
-        return false;
-    }
-    benchlog::fault_number(fault) == benchlog::fault_number(Fault::Ends)
+    !last && fault == Fault::Ends
 }
 
 // A part that ends here.

@@ -27,7 +27,7 @@ use Rattle.bus.proofs.Refusal.number.Reads as bus-number
 use Rattle.bus.proofs.table.look_up.Reads as bus-look-up
 use Rattle.benchlog.proofs.read_argument.Reads as benchlog-read-argument
 use Rattle.benchlog.proofs.read_entry.Reads as benchlog-read-entry
-use Rattle.benchlog.proofs.fault_number.Reads as benchlog-fault-number
+use Rattle.benchlog.proofs.Fault.number.Reads as benchlog-number
 use Rattle.benchlog.proofs.numbers_of.Reads as benchlog-numbers-of
 use Rattle.benchlog.proofs.read_number.Reads as benchlog-read-number
 use Rattle.layout.proofs.Refusal.number.Reads as layout-number
@@ -154,8 +154,8 @@ one_benchlog_read_argument κ given first second e d p q = determined p q
 pub one_benchlog_read_entry : OneResult benchlog-read-entry.Post
 one_benchlog_read_entry κ given first second e d p q = determined p q
 
-pub one_benchlog_fault_number : OneResult benchlog-fault-number.Post
-one_benchlog_fault_number κ given first second e d p q = determined p q
+pub one_benchlog_number : OneResult benchlog-number.Post
+one_benchlog_number κ given first second e d p q = determined p q
 
 pub one_benchlog_numbers_of : OneResult benchlog-numbers-of.Post
 one_benchlog_numbers_of κ given first second e d p q = determined p q

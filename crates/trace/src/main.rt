@@ -60,29 +60,15 @@ fn limits_830() -> [u32; 35]
 }
 
 // The head that an input begins with; its first number names the module.
-fn head_in(input: &[u8]) -> Head
+fn head_in(input: &[u8]) -> Result<Head, Fault>
     ensures { result ≡ head_in input.now }
 {
-    let name = head::read_head(input, &ANY);
-    if name.answer != 0 {
-        return name;
-    }
-    if name.values[0] == 260 {
-        let limits = limits_260();
-        return head::read_head(input, &limits);
-    }
-    if name.values[0] == 560 {
-        let limits = limits_560();
-        return head::read_head(input, &limits);
-    }
-    if name.values[0] == 830 {
-        let limits = limits_830();
-        return head::read_head(input, &limits);
-    }
-    Head {
-        answer: benchlog::fault_number(Fault::NoSuchKind),
-        values: [0; 40],
-        after: 0,
+    let name = head::read_head(input, &ANY)?;
+    match name.values[0] {
+        260 => head::read_head(input, &limits_260()),
+        560 => head::read_head(input, &limits_560()),
+        830 => head::read_head(input, &limits_830()),
+        _ => Err(Fault::NoSuchKind),
     }
 }
 
@@ -166,18 +152,14 @@ impl Course<'_> {
     fn turn(&mut self) {
         let l = self.listing.make_room(self.rt, self.out, 903);
         match benchlog::read_entry(&self.buf[..l.have], l.used) {
-            Reading::Entry(entry, next) => {
+            Ok(Reading { entry, next }) => {
                 self.listing = l;
                 self.show(entry, next);
             }
-            Reading::Refused(fault, _) => {
-                let number = benchlog::fault_number(fault);
-                self.listing = if !l.ended && number == benchlog::fault_number(Fault::Ends) {
-                    l.flush(self.rt, self.out).read_on(self.rt, self.buf)
-                } else {
-                    l.end(self.out, number)
-                };
+            Err(refused) if !l.ended && refused.fault == Fault::Ends => {
+                self.listing = l.flush(self.rt, self.out).read_on(self.rt, self.buf);
             }
+            Err(refused) => self.listing = l.end(self.out, refused.fault.number()),
         }
     }
 
@@ -252,13 +234,14 @@ fn list(
         return first;
     }
     let have = first.have;
-    let head = head_in(&buf[..have]);
-    if head.answer == 0 {
-        let values = head.values;
-        let end = modules::lent(which_of(values[0]), values, memory.len());
-        return list_entries(rt, buf, out, &mut memory[..end], first, head);
+    match head_in(&buf[..have]) {
+        Ok(head) => {
+            let values = head.values;
+            let end = modules::lent(which_of(values[0]), values, memory.len());
+            list_entries(rt, buf, out, &mut memory[..end], first, head)
+        }
+        Err(fault) => first.fault(out, fault.number()),
     }
-    first.fault(out, head.answer)
 }
 
 // Whether the bytes that are read end inside the head.
@@ -266,8 +249,7 @@ fn ends_in_head(buf: &[u8], l: Listing) -> bool
     requires { l.have ≤ length buf.now }
 {
     let have = l.have;
-    let head = head_in(&buf[..have]);
-    head.answer == benchlog::fault_number(Fault::Ends)
+    matches!(head_in(&buf[..have]), Err(Fault::Ends))
 }
 
 // Begins the listing: reads on until the head is whole or refused, or the input has ended, or a read fails.

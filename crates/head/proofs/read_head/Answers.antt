@@ -1,34 +1,28 @@
 use mathlib.Core.Path.{refl, sym, ◌∙◌}
 use native.Mathlib.Omega.{arith}
-use borrow.Author.Tests.{ltb-false}
 use Rattle.head.specs.Heads.{head_of}
-use Rattle.head.proofs.Turns.{one, fault, end_40, end_limits}
+use Rattle.head.proofs.Turns.{one, fault, ended}
+use Rattle.std.proofs.lemmas.Grind.{common_steps}
 use borrow.Author.Rules.{rules}
 use Rattle.head.proofs.read_head.Goals as goal
 
 pub loop-i-init : goal.loop-i-init
 unfolding head_of
-loop-i-init c = (search rules, search rules, refl)
+loop-i-init c = (refl, refl)
 
-pub returns-in-Refused : goal.returns-in-Refused
-returns-in-Refused c = let f = c in
-    let l = f.loop-i in
-    let a = f.args in
-    let e = fault a.input.now a.limits.now l.after l.i l.values (omega arith) (search rules) _ _ (sym f.read_argument.ensures ∙ f.in-Refused.is) in
-    rw (c.refused.ensures, c.fault_number.ensures) (sym e ∙ l.invariant.2)
+pub returns-in_err-number : goal.returns-in_err-number
+returns-in_err-number c = let l = c.loop-i in
+    let a = c.args in
+    let e = fault a.input.now a.limits.now l.after l.i l.values (omega arith) (omega arith) _ (sym c.read_argument.ensures ∙ c.in_err-number.was) in
+    let h = sym e ∙ l.invariant.1 in grind (arith, common_steps, h)
 
 pub loop-i-preserved : goal.loop-i-preserved
 loop-i-preserved c = let l = c.loop-i in
     let a = c.args in
-    let e = sym c.read_argument.ensures ∙ c.in-Value.is in
-    (search rules, search rules, one a.input.now a.limits.now l.after l.i l.values (omega arith) (search rules) _ _ e ∙ l.invariant.2)
+    let e = one a.input.now a.limits.now l.after l.i l.values (omega arith) (omega arith) _ (sym c.read_argument.ensures ∙ c.in_ok-number.was) in
+    (search rules, e ∙ l.invariant.1)
 
-pub returns-else-i-limits : goal.returns-else-i-limits
-returns-else-i-limits c = let l = c.loop-i in
+pub returns : goal.returns
+returns c = let l = c.loop-i in
     let a = c.args in
-    sym (end_limits a.input.now a.limits.now l.after l.i l.values (ltb-false _ _ c.if-i-limits.false-raw)) ∙ l.invariant.2
-
-pub returns-after-loop-i : goal.returns-after-loop-i
-returns-after-loop-i c = let l = c.loop-i in
-    let a = c.args in
-    sym (end_40 a.input.now a.limits.now l.after l.i l.values (omega arith)) ∙ l.invariant.2
+    sym (ended a.input.now a.limits.now l.after l.i l.values (omega (arith, c.min-many.ensures))) ∙ l.invariant.1

@@ -11,10 +11,10 @@ use Rattle.night.proofs.run.Goals as goal
 pub loop-left-init : goal.loop-left-init
 loop-left-init c = (refl, c.requires, start _ _ _ _ _ _ (omega arith), c.counted_to-number.ensures)
 
-pub returns-in-Refused : goal.returns-in-Refused
-returns-in-Refused c = let i = c in
+pub returns-in-Err : goal.returns-in-Err
+returns-in-Err c = let i = c in
     let log = i.args.log.now in
-    let r = (ap (λ (b : List ℕ). entry_at b 0) (sym (part_to_end c.args.log.now c.loop-left.used)) ∙ sym c.read_entry.ensures) ∙ c.in-Refused.is in
+    let r = (ap (λ (b : List ℕ). entry_at b 0) (sym (part_to_end c.args.log.now c.loop-left.used)) ∙ sym c.read_entry.ensures) ∙ c.in-Err.is in
     let g = i.loop-left.invariant.2 in
     let h = c.loop-left-test.true in
     let s = rw (part_to_end log i.loop-left.used) at c.stop.ensures in
@@ -29,8 +29,8 @@ put_entry-at-requires c = tells _ _ c.counted_up-number.ensures
 pub overflow_add-used : goal.overflow_add-used
 overflow_add-used c = let i = c in
     let log = i.args.log.now in
-    let r = (ap (λ (b : List ℕ). entry_at b 0) (sym (part_to_end c.args.log.now c.loop-left.used)) ∙ sym c.read_entry.ensures) ∙ c.in-Entry.is in
-    omega (arith, within (drop i.loop-left.used log) _ _ r, length-drop i.loop-left.used log, i.loop-left.invariant.2.in_log)
+    let r = (ap (λ (b : List ℕ). entry_at b 0) (sym (part_to_end c.args.log.now c.loop-left.used)) ∙ sym c.read_entry.ensures) ∙ c.in-Ok.is in
+    omega (arith, within (drop i.loop-left.used log) _ r, length-drop i.loop-left.used log, i.loop-left.invariant.2.in_log)
 
 pub overflow_sub-left : goal.overflow_sub-left
 overflow_sub-left c = c.loop-left-test.true
@@ -40,7 +40,7 @@ loop-left-smaller c = omega (arith, c.loop-left-test.true)
 
 pub loop-left-preserved : goal.loop-left-preserved
 loop-left-preserved c = let i = c in
-    let r = (ap (λ (b : List ℕ). entry_at b 0) (sym (part_to_end c.args.log.now c.loop-left.used)) ∙ sym c.read_entry.ensures) ∙ c.in-Entry.is in
+    let r = (ap (λ (b : List ℕ). entry_at b 0) (sym (part_to_end c.args.log.now c.loop-left.used)) ∙ sym c.read_entry.ensures) ∙ c.in-Ok.is in
     let t = c.take-taken in
     let u = c.counted_up-number in
     let p = c.put_entry-at in

@@ -23,6 +23,6 @@ returns c = let f = c in
     let b = f in
     let a = c.args in
     let e = sym b.wants_bytes.ensures ∙ b.if-wants_bytes.false in
-    let k = f.fault_number-number.ensures in
-    let p = fault_put a.used a.at f.fault_number-number.result a.night.place a.night (lent []) a.out.now f.put_fault-end.new.out f.put_fault-end.result (omega arith) f.put_fault-end.ensures.0 f.put_fault-end.ensures.1 in
+    let k = f.number-number.ensures in
+    let p = fault_put a.used a.at f.number-number.result a.night.place a.night (lent []) a.out.now f.put_fault-end.new.out f.put_fault-end.result (omega arith) f.put_fault-end.ensures.0 f.put_fault-end.ensures.1 in
     rw (e, ne_eqb _ _ b.if-rest-eq0.false, ← k) (c.here-2.ensures ∙ p.0, p.1)

@@ -5,5 +5,5 @@ use Rattle.trace.proofs.list.Goals as goal
 pub slice_bounds-head_in-end-2 : goal.slice_bounds-head_in-end-2
 slice_bounds-head_in-end-2 c = sym (length-take-le _ _ c.requires)
 
-pub slice_bounds-list_entries-end-then-head-eq0 : goal.slice_bounds-list_entries-end-then-head-eq0
-slice_bounds-list_entries-end-then-head-eq0 c = sym (length-take-le _ _ c.lent-end.ensures.1)
+pub slice_bounds-list_entries-end-in-Ok : goal.slice_bounds-list_entries-end-in-Ok
+slice_bounds-list_entries-end-in-Ok c = sym (length-take-le _ _ c.lent-end.ensures.1)

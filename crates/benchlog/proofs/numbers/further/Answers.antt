@@ -9,7 +9,7 @@ pub loop-g-init : goal.loop-g-init
 loop-g-init c = start _ _ _ c.requires.0 c.requires.1
 
 pub returns-then-log-at : goal.returns-then-log-at
-returns-then-log-at c = no_next c.loop-g.invariant c.loop-g-test.true c.if-log-at.true
+returns-then-log-at c = rw c.at.ensures (no_next c.loop-g.invariant c.loop-g-test.true c.if-log-at.true)
 
 pub last_group-requires : goal.last_group-requires
 last_group-requires c = (search rules, product_fits c.loop-g.invariant _ c.loop-g-test.true c.if-b-le127.true, c.loop-g.invariant.weight)
