@@ -16,7 +16,7 @@ use Rattle.layout.specs.declared.Event.{Event}
 use Rattle.layout.specs.declared.Settings.{Settings}
 use Rattle.layout.specs.Length.{event_length, header_length, enabled_channels}
 use Rattle.layout.specs.Numbers.{passed, gives_length, unless, no_refusal}
-use Rattle.layout.specs.Reader.{header_answer, data_answer, body_answer, read_answer}
+use Rattle.layout.specs.Reader.{header_answer, datum_answer, data_answer, body_answer, read_answer}
 use Rattle.layout.specs.Writer.{fields_fit, fields_zero, counts_fit, writable, write_answer}
 use Rattle.layout.proofs.Lengths.{some}
 
@@ -46,6 +46,11 @@ header_onward st h rest =
     (link_onward (eqb (h / 2 ^ 24 % 4) 0) Bits25And24 _ _ rest
     (link_onward (leb (h / 2 ^ 18 % 64) 32) CountAbove32 _ _ rest
     (link_onward (eqb (h / 2 ^ 18 % 64) (ones_in 32 st.enable)) AnotherCount passed rest rest refl)))
+
+pub datum_onward : {A : Type 0} (k w : ℕ) (rest : Result A Refusal) → Onward (datum_answer k w passed) (datum_answer k w rest) rest
+datum_onward k w rest =
+    link_onward (eqb (w / 2 ^ 26 % 2) 0) DatumWithBit26 _ _ rest
+    (link_onward (eqb (w / 2 ^ 27) k) AnotherChannel passed rest rest refl)
 
 pub data_onward : {A : Type 0} (ks ws : List ℕ) (rest : Result A Refusal) → Onward (data_answer ks ws passed) (data_answer ks ws rest) rest
 unfolding data_answer

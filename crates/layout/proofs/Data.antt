@@ -1,50 +1,51 @@
 -- One turn of the reader's loops and of the writer's test of the counts: one clause of a definition. Assumes nothing.
-use mathlib.Core.Path.{◌≡◌}
+use mathlib.Core.Path.{◌≡◌, sym, ◌∙◌}
 use mathlib.Core.Bool.{Bool, true, false}
-use mathlib.Core.List.{List, ◌∷◌}
-use Prim.Native.Nat.{ℕ, ◌+◌, ◌/◌, ◌%◌, ◌^◌, ◌≤◌, ◌<◌}
+use mathlib.Core.List.{List, [], ◌∷◌}
+use mathlib.Core.Logic.{inl, inr}
+use Prim.Native.Nat.{ℕ, ◌+◌, ◌/◌, ◌%◌, ◌≤◌, ◌<◌}
 use native.Mathlib.Numerals.{add-one}
-use borrow.Author.Tests.{eq-eqb, ne_eqb}
+use native.Mathlib.Omega.{arith}
 use lib.ListN.{length, get_or, set, drop, drop_of_length-le}
 use lib.Seq.{drop-cons}
-use Rattle.std.specs.Prelude.{Result, Err}
+use Rattle.std.specs.Prelude.{Result, Ok, Err}
 use Rattle.layout.specs.declared.Refusal.{Refusal}
-use Rattle.layout.specs.declared.Refusal.TheVariants.{DatumWithBit26, AnotherChannel}
-use Rattle.layout.specs.Length.{enabled_channels}
-use Rattle.layout.specs.Reader.{data_answer, count_in, counts_read}
+use Rattle.layout.specs.Numbers.{passed}
+use Rattle.layout.specs.Reader.{datum_answer, data_answer, count_in, counts_read}
 use Rattle.layout.specs.Writer.{count_fits, counts_fit}
-use Rattle.layout.proofs.Turns.{Left, left_turn, left_step, left_over}
+use Rattle.layout.proofs.Answers.{datum_onward}
+use Rattle.layout.proofs.Turns.{Left, Ended, left_turn, left_room, left_over}
 
--- ---- the answer of the data: 23, 24, or on to the next datum
-module _ {A : Type 0} (rest : Result A Refusal) {whole : Result A Refusal} {ws : List ℕ} {at left : ℕ} (e : Left (λ ks us. data_answer ks us rest) whole ws at left) where
-  module _ (k after : ℕ) (n : enabled_channels left ≡ k ∷ enabled_channels after) where
-    pub data_bit_26 : (get_or ws at 0 / 2 ^ 26 % 2 ≡ 0 → ⊥) → Err DatumWithBit26 ≡ whole
+-- ---- the answer of the data: why a datum is refused, or on to the next
+module _ {whole : Result (Unit {0}) Refusal} {ks ws : List ℕ} (e : Left (λ js us. data_answer js us passed) whole ks ws) where
+  module _ {k w : ℕ} {others rest : List ℕ} (p : (ks ≡ k ∷ others) × (ws ≡ w ∷ rest)) {r : Result (Unit {0}) Refusal} (a : r ≡ datum_answer k w passed) where
+    pub data_next : {u : Unit {0}} → r ≡ Ok u → Left (λ js us. data_answer js us passed) whole others rest
     unfolding data_answer
-    data_bit_26 b = rw (ne_eqb _ _ b) at (left_turn e k after n)
+    data_next d = record { same = sym (rw (sym a ∙ d) at (datum_onward k w (data_answer others rest passed))) ∙ left_turn e p; room = left_room e p }
 
-    module _ (z : get_or ws at 0 / 2 ^ 26 % 2 ≡ 0) where
-      pub data_channel : (get_or ws at 0 / 2 ^ 27 ≡ k → ⊥) → Err AnotherChannel ≡ whole
-      unfolding data_answer
-      data_channel b = rw (eq-eqb _ _ z, ne_eqb _ _ b) at (left_turn e k after n)
+    pub data_stops : {why : Refusal} → r ≡ Err why → Err why ≡ whole
+    unfolding data_answer
+    data_stops d = sym (rw (sym a ∙ d) at (datum_onward k w (data_answer others rest passed))) ∙ left_turn e p
 
-      pub data_next : get_or ws at 0 / 2 ^ 27 ≡ k → Left (λ ks us. data_answer ks us rest) whole ws (at + 1) after
-      unfolding data_answer
-      data_next b = left_step e k after n _ (rw (eq-eqb _ _ z, eq-eqb _ _ b) at (left_turn e k after n))
-
-  pub data_over : left ≡ 0 → rest ≡ whole
+  pub data_over : {S T : Type 0} {P : S → Type 0} {Q : T → Type 0} → Ended P Q ks ws → passed ≡ whole
   unfolding data_answer
   data_over z = left_over e z
 
 -- ---- the counts: one more at its channel
-module _ (short : Bool) (counts : List ℕ) {whole ws : List ℕ} {at left : ℕ} (e : Left (λ ks us. counts_read short ks us counts) whole ws at left) where
-  pub counts_next : (k after : ℕ) → enabled_channels left ≡ k ∷ enabled_channels after
-      → Left (λ ks us. counts_read short ks us (set counts k (count_in short (get_or ws at 0)))) whole ws (at + 1) after
+module _ (short : Bool) (counts ws : List ℕ) {whole ks : List ℕ} (e : counts_read short ks ws counts ≡ whole) where
+  pub counts_next : {k w : ℕ} {others rest : List ℕ} → (ks ≡ k ∷ others) × (ws ≡ w ∷ rest) → counts_read short others rest (set counts k (count_in short w)) ≡ whole
   unfolding counts_read
-  counts_next k after n = left_step e k after n _ (left_turn e k after n)
+  counts_next p = rw (p.0, p.1) at e
 
-  pub counts_over : left ≡ 0 → counts ≡ whole
+  pub counts_over : {S T : Type 0} {P : S → Type 0} {Q : T → Type 0} → Ended P Q ks ws → counts ≡ whole
   unfolding counts_read
-  counts_over z = left_over e z
+  counts_over (inl x) = rw x.1.0 at e
+  counts_over (inr y) = go ks ws y.1.0 e
+    where
+      go : (js us : List ℕ) → length us ≡ 0 → counts_read short js us counts ≡ whole → counts ≡ whole
+      go [] us z h = h
+      go (j ∷ js) [] z h = h
+      go (j ∷ js) (u ∷ us) z h = absurd (omega arith)
 
 -- ---- whether the counts from k on fit: this one, and those behind it
 module _ (short : Bool) (mask : ℕ) (cs : List ℕ) (k : ℕ) where

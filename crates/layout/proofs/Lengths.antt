@@ -2,16 +2,19 @@
 -- divided. Assumes nothing.
 use mathlib.Core.Path.{◌≡◌, sym, ap}
 use mathlib.Core.Bool.{Bool, true, false, cond, not, ◌||◌}
-use Prim.Native.Nat.{ℕ, zero, suc, ◌+◌, ◌/◌, ◌%◌, ◌^◌, ◌<◌}
+use Prim.Native.Nat.{ℕ, zero, suc, ◌+◌, ◌-◌, ◌/◌, ◌%◌, ◌^◌, ◌≤◌, ◌<◌}
 use native.Mathlib.Nat.{div-add-mod', mul-suc}
 use native.Mathlib.Omega.{arith}
 use borrow.Author.Tests.{ne_eqb, lt-ltb, le-ltb}
+use lib.ListN.{length, take, drop, length-drop}
+use mathlib.Core.List.{List}
+use Rattle.std.proofs.lemmas.Grind.{common_steps}
 use lib.Count.{ones_in}
 use lib.Dec.{eqb, ltb}
 use Rattle.layout.specs.declared.Settings.{Settings}
 use Rattle.layout.specs.declared.Words.{Words}
-use Rattle.layout.specs.Length.{words, event_length}
-use Rattle.layout.proofs.Enabled.{ones_of_zero, only_zero}
+use Rattle.layout.specs.Length.{words, event_length, header_length, enabled_channels}
+use Rattle.layout.proofs.Enabled.{length_enabled, ones_of_zero, only_zero}
 
 -- the test whether a length is 0, of the definitions' form
 pub none : (n : ℕ) → n ≡ 0 → ltb 0 n ≡ false
@@ -34,6 +37,9 @@ has_words st h = go st.enable st.header h
         let some : ones_in 32 (suc x) ≡ 0 → ⊥ = λ e. absurd (omega (arith, only_zero 32 (suc x) h e)) in
         rw (ne_eqb (ones_in 32 (suc x) + cond header 1 0) 0 (omega (arith, some)), ne_eqb (suc x) 0 (omega arith))
 
-pub rest_below : (n d : ℕ) → 0 < d → (n % d ≡ 0 → ⊥) → n / d < n
-rest_below n zero p r = absurd (omega arith)
-rest_below n (suc d) p r = omega (arith, div-add-mod' n (suc d), mul-suc (n / suc d) d)
+-- the words behind the header, as the code takes them
+pub behind_place : (ws : List ℕ) (at place : ℕ) → at ≡ place → take (length ws - at) (drop at ws) ≡ drop place ws
+behind_place ws at place e = grind (arith, common_steps)
+
+pub behind_header : (st : Settings) (ws : List ℕ) → event_length st ≤ length ws → length (enabled_channels st.enable) ≤ length (drop (header_length st) ws)
+behind_header st ws h = omega (arith, length_enabled 32 0 st.enable, length-drop (header_length st) ws)

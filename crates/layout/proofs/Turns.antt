@@ -1,60 +1,68 @@
--- One turn of a loop over the enabled channels: one of them, one word, and what is left of both. Assumes nothing.
+-- One turn of a loop over the enabled channels and the data: one of each, and what is left of both. Assumes nothing.
 use mathlib.Core.Path.{◌≡◌}
 use mathlib.Core.Bool.{Bool}
 use mathlib.Core.List.{List, [], ◌∷◌}
-use Prim.Native.Nat.{ℕ, ◌+◌, ◌^◌, ◌≤◌, ◌<◌}
+use mathlib.Core.Logic.{◌⊎◌, inl, inr}
+use Prim.Native.Nat.{ℕ, zero, suc, ◌+◌, ◌/◌, ◌%◌, ◌≤◌, ◌<◌}
 use native.Mathlib.Numerals.{add-one}
 use native.Mathlib.Omega.{arith}
-use lib.ListN.{length, get_or, set, drop, length-set}
-use lib.Seq.{drop-cons, sets}
-use Rattle.layout.specs.declared.Settings.{Settings}
+use lib.ListN.{length, get_or, set, length-set}
+use lib.Seq.{sets}
 use Rattle.layout.specs.Layout.{datum_of, data_of}
-use Rattle.layout.specs.Length.{enabled_channels, header_length, event_length}
-use Rattle.layout.proofs.Enabled.{enabled_none, length_enabled}
+use Rattle.layout.specs.Length.{channel_if, enabled_from, enabled_channels}
 
--- ---- reading: f of the channels left and of the words from `at` on is the whole
-pub record Left {A : Type 0} (f : List ℕ → List ℕ → A) (whole : A) (ws : List ℕ) (at left : ℕ) : Type 0 where
-  pub same : f (enabled_channels left) (drop at ws) ≡ whole
-  pub room : at + length (enabled_channels left) ≤ length ws
+-- f of the channels and of the words that are left is the whole, and there is a word for each channel
+pub record Left {A : Type 0} (f : List ℕ → List ℕ → A) (whole : A) (ks ws : List ℕ) : Type 0 where
+  pub same : f ks ws ≡ whole
+  pub room : length ks ≤ length ws
 
-module _ {A : Type 0} {f : List ℕ → List ℕ → A} {whole : A} {ws : List ℕ} {at left : ℕ} (e : Left f whole ws at left) where
-  -- k is the next channel, and `after` the mask of those behind it
-  module _ (k after : ℕ) (n : enabled_channels left ≡ k ∷ enabled_channels after) where
-    left_more : at + length (k ∷ enabled_channels after) ≤ length ws
-    left_more = rw n at e.room
+-- a loop over both has ended: nothing is left of the one, or of the other
+abbrev pub Ended : {S T : Type 0} → (S → Type 0) → (T → Type 0) → List ℕ → List ℕ → Type 0
+Ended {S} {T} P Q ks ws = ((u : S) × ((ks ≡ []) × P u)) ⊎ ((v : T) × ((length ws ≡ 0) × Q v))
 
-    pub left_room : at < length ws
-    left_room = omega (arith, left_more)
+module _ {A : Type 0} {f : List ℕ → List ℕ → A} {whole : A} {ks ws : List ℕ} (e : Left f whole ks ws) where
+  -- k and w are next, and these are behind them
+  module _ {k w : ℕ} {others rest : List ℕ} (p : (ks ≡ k ∷ others) × (ws ≡ w ∷ rest)) where
+    pub left_turn : f (k ∷ others) (w ∷ rest) ≡ whole
+    left_turn = rw (p.0, p.1) at e.same
 
-    pub left_turn : f (k ∷ enabled_channels after) (get_or ws at 0 ∷ drop (at + 1) ws) ≡ whole
-    left_turn = rw add-one (rw (n, drop-cons ws at 0 left_room) at e.same)
+    pub left_room : length others ≤ length rest
+    left_room = let h : length (k ∷ others) ≤ length (w ∷ rest) = rw (p.0, p.1) at e.room in omega arith
 
-    -- what is the whole of what is left behind it
-    pub left_step : (g : List ℕ → List ℕ → A) → g (enabled_channels after) (drop (at + 1) ws) ≡ whole → Left g whole ws (at + 1) after
-    left_step g s = record { same = s; room = omega (arith, left_more) }
+  pub left_over : {S T : Type 0} {P : S → Type 0} {Q : T → Type 0} → Ended P Q ks ws → f [] ws ≡ whole
+  left_over (inl x) = rw x.1.0 at e.same
+  left_over (inr y) = go ks e.same e.room
+    where
+      go : (js : List ℕ) → f js ws ≡ whole → length js ≤ length ws → f [] ws ≡ whole
+      go [] s l = s
+      go (j ∷ js) s l = absurd (omega (arith, y.1.0))
 
-  pub left_over : left ≡ 0 → f [] (drop at ws) ≡ whole
-  left_over z = rw (z, enabled_none) at e.same
+-- ---- writing: the data of the channels left, stored from `at` on, give the whole
+pub record Putting (short : Bool) (counts whole ws : List ℕ) (at : ℕ) (ks : List ℕ) : Type 0 where
+  pub stored : sets ws at (data_of short counts ks) ≡ whole
+  pub fits : at + length ks ≤ length ws
 
--- before the first turn: the words are those behind the header
-pub left_start : {A : Type 0} (f : List ℕ → List ℕ → A) (st : Settings) (ws : List ℕ) (at : ℕ) → st.enable < 2 ^ 32 → event_length st ≤ length ws → at ≡ header_length st
-    → Left f (f (enabled_channels st.enable) (drop (header_length st) ws)) ws at st.enable
-left_start f st ws at h l e = record { same = rw e; room = rw e (omega (arith, length_enabled 32 0 st.enable)) }
-
--- ---- writing: the data left, stored from `at` on, give the whole
-pub record Putting (short : Bool) (counts whole ws : List ℕ) (at left : ℕ) : Type 0 where
-  pub stored : sets ws at (data_of short counts (enabled_channels left)) ≡ whole
-  pub fits : at + length (enabled_channels left) ≤ length ws
-
-module _ {short : Bool} {counts whole ws : List ℕ} {at left : ℕ} (e : Putting short counts whole ws at left) where
-  module _ (k after : ℕ) (n : enabled_channels left ≡ k ∷ enabled_channels after) where
+module _ {short : Bool} {counts whole ws : List ℕ} {at : ℕ} {ks : List ℕ} (e : Putting short counts whole ws at ks) where
+  module _ {k : ℕ} {others : List ℕ} (p : ks ≡ k ∷ others) where
     pub put_room : at < length ws
-    put_room = let h : at + length (k ∷ enabled_channels after) ≤ length ws = rw n at e.fits in omega arith
+    put_room = let h : at + length (k ∷ others) ≤ length ws = rw p at e.fits in omega arith
 
-    pub put_turn : Putting short counts whole (set ws at (datum_of short k (get_or counts k 0))) (at + 1) after
-    put_turn =
-        let h : at + length (k ∷ enabled_channels after) ≤ length ws = rw n at e.fits in
-        record { stored = rw add-one (rw n at e.stored); fits = rw length-set (omega arith) }
+    pub put_turn : Putting short counts whole (set ws at (datum_of short k (get_or counts k 0))) (at + 1) others
+    put_turn = let h : at + length (k ∷ others) ≤ length ws = rw p at e.fits in
+        record { stored = rw add-one (rw p at e.stored); fits = rw length-set (omega arith) }
 
-  pub put_over : left ≡ 0 → ws ≡ whole
-  put_over z = rw (z, enabled_none) at e.stored
+  pub put_over : ks ≡ [] → ws ≡ whole
+  put_over z = rw z at e.stored
+
+-- ---- the first of the enabled channels, as each of them, is one of the 32
+first_from : (d k m j : ℕ) (js : List ℕ) → enabled_from d k m ≡ j ∷ js → j < k + d
+unfolding enabled_from
+first_from zero k m j js e = absurd (cc)
+first_from (suc d) k m j js e = go (m % 2) e (first_from d (suc k) (m / 2) j js)
+  where
+    go : (b : ℕ) → channel_if b k (enabled_from d (suc k) (m / 2)) ≡ j ∷ js → (enabled_from d (suc k) (m / 2) ≡ j ∷ js → j < suc k + d) → j < k + suc d
+    go zero f ih = let h : j < suc k + d = ih f in omega arith
+    go (suc b) f ih = let h : k ≡ j = cc in omega arith
+
+pub channel_below : (m j : ℕ) (js : List ℕ) → enabled_channels m ≡ j ∷ js → j < 32
+channel_below m j js e = first_from 32 0 m j js e

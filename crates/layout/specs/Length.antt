@@ -1,6 +1,7 @@
 -- Document 01, "V830 store": Channel Enable, the event length, and the only way from words to events. Assumes nothing.
 use Rattle.std.specs.Prelude.{ℕ, zero, suc, ◌+◌, ◌/◌, ◌%◌, cond, List, [], ◌∷◌, Option, Some, None, eqb}
 use Rattle.std.specs.Int.Count.{ones_in}
+use Rattle.layout.specs.declared.channels.Channels.{Channels}
 use Rattle.layout.specs.declared.Events.{Events}
 use Rattle.layout.specs.declared.Settings.{Settings}
 use Rattle.layout.specs.declared.Words.{Words}
@@ -24,6 +25,10 @@ enabled_from (suc d) k mask = channel_if (mask % 2) k (enabled_from d (suc k) (m
 
 abbrev pub enabled_channels : ℕ → List ℕ
 enabled_channels enable = enabled_from 32 0 enable
+
+-- what an iterator over the enabled channels has left
+abbrev pub channels_left : Channels → List ℕ
+channels_left channels = enabled_channels channels.0
 
 -- a header is one word
 abbrev pub header_length : Settings → ℕ

@@ -1,22 +1,25 @@
 // The enabled channels, one after the other.
-ghost use Rattle.std.specs.Prelude.{◌≡◌, ◌∷◌, ◌<◌};
-ghost use Rattle.layout.specs.Length.{enabled_channels};
+ghost use Rattle.std.specs.Prelude.{◌∷◌};
+ghost use Rattle.std.specs.Iterator.{YieldsFirst, item_count};
+ghost use Rattle.layout.specs.Length.{channels_left};
 
-// The next enabled channel, and the mask of those after it.
+// Those of a mask: trailing zeros find the next one, and the mask of those behind it is left.
 #[derive(Clone, Copy)]
-pub struct Next {
-    pub channel: u32,
-    pub left: u32,
-}
+pub struct Channels(pub u32);
 
-// The next of the channels that are left.
-pub(crate) fn next_channel(left: u32) -> Next
-    requires { 0 < left }
-    ensures { (enabled_channels left ≡ result.channel ∷ enabled_channels result.left) × (result.channel < 32) × (result.left < left) }
-{
-    let channel = u32::trailing_zeros(left);
-    Next {
-        channel,
-        left: left - (1 << channel),
+impl Iterator for Channels {
+    type Item = u32;
+
+    ghost next_gives = { YieldsFirst channels_left };
+
+    ghost remaining = { item_count channels_left };
+
+    fn next(&mut self) -> Option<u32> {
+        if self.0 == 0 {
+            return None;
+        }
+        let channel = self.0.trailing_zeros();
+        self.0 -= 1 << channel;
+        Some(channel)
     }
 }

@@ -5,7 +5,7 @@ ghost use Rattle.layout.specs.Layout.{header_of, datum_of, data_of, event_words}
 ghost use Rattle.layout.specs.Writer.{fields_fit, fields_zero, zero_if_disabled, count_fits, counts_fit, writable, write_answer, write_words};
 ghost use Rattle.std.proofs.lemmas.List.Edits.{sets};
 
-use crate::channels::next_channel;
+use crate::channels::Channels;
 use crate::{Answer, Event, Refusal, Settings, enabled_channels, event_length};
 
 // Writes an event to lent words: its own words and no others, none where it refuses.
@@ -138,14 +138,9 @@ fn put_data(settings: Settings, event: Event, words: &mut [u32], from: usize)
     requires { from + length (enabled_channels settings.enable) ≤ length words.old }
     ensures { words.new ≡ sets words.old from (data_of settings.short event.counts (enabled_channels settings.enable)) }
 {
-    let mut left = settings.enable;
-    let mut at = from;
-    while left != 0 {
-        let next = next_channel(left);
-        let k = next.channel as usize;
-        words[at] = datum(settings.short, next.channel, event.counts[k]);
-        at += 1;
-        left = next.left;
+    for (at, channel) in Channels(settings.enable).enumerate() {
+        let count = event.counts[channel as usize];
+        words[from + at] = datum(settings.short, channel, count);
     }
 }
 

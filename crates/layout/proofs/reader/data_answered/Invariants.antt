@@ -1,14 +1,11 @@
--- The data left and the words from the place reached decide; one turn is one clause of the definition. Assumes
--- nothing.
-use lib.ListN.{drop}
+-- The channels and the data that are left decide; one turn is one clause of the definition. Assumes nothing.
+use Rattle.std.specs.Slice.Iter.{iter_rest}
+use Rattle.layout.specs.Length.{enabled_channels, channels_left}
 use Rattle.layout.specs.Numbers.{passed}
 use Rattle.layout.specs.Reader.{data_answer}
-use Rattle.layout.specs.Length.{enabled_channels, header_length}
 use Rattle.layout.proofs.Turns.{Left}
 use Rattle.layout.proofs.reader.data_answered.Given as goal
 
-abbrev pub invariant-loop-left : goal.invariant-loop-left
-invariant-loop-left l = Left (λ ks ws. data_answer ks ws passed) (data_answer (enabled_channels l.fn.settings.enable) (drop (header_length l.fn.settings) l.words) passed) l.words l.at l.left
-
-abbrev pub decreases-loop-left : goal.decreases-loop-left
-decreases-loop-left l = l.left
+abbrev pub invariant-loop-channel : goal.invariant-loop-channel
+invariant-loop-channel l =
+    Left (λ ks ws. data_answer ks ws passed) (data_answer (enabled_channels l.enable) l.body passed) (channels_left l.channel-iterator.a) (iter_rest l.channel-iterator.b)

@@ -1,26 +1,24 @@
-use mathlib.Core.Path.{refl, ◌∙◌}
-use lib.ListN.{length-set}
+use mathlib.Core.Path.{◌≡◌, refl}
+use Prim.Native.Nat.{◌+◌}
+use native.Mathlib.Nat.{add-zero}
 use native.Mathlib.Omega.{arith}
-use Rattle.layout.proofs.Turns.{put_room, put_turn, put_over}
-use borrow.Author.Rules.{rules}
+use Rattle.layout.proofs.Turns.{channel_below, put_turn, put_over}
 use Rattle.layout.proofs.writer.put_data.Goals as goal
 
-pub loop-left-init : goal.loop-left-init
-loop-left-init c = (refl, record { stored = refl; fits = c.requires })
+pub loop-at-init : goal.loop-at-init
+loop-at-init c = let e = c.enumerate-at-items.ensures in
+    rw (c.into_iter-at-iterator.ensures.into_iter_gives, e.source, e.count, add-zero) (record { stored = refl; fits = c.requires })
 
-pub offset_bounds-words-at : goal.offset_bounds-words-at
-offset_bounds-words-at c = let l = c.loop-left in let n = c.next_channel-next in omega (arith, put_room l.invariant.1 n.result.channel n.result.left n.ensures.0)
+pub bounds-event-channel : goal.bounds-event-channel
+bounds-event-channel c = channel_below _ _ _ c.in-Some.ensures.steps.0
 
-pub bounds-words-at : goal.bounds-words-at
-bounds-words-at c = let l = c.loop-left in let n = c.next_channel-next in put_room l.invariant.1 n.result.channel n.result.left n.ensures.0
+pub datum-requires : goal.datum-requires
+datum-requires c = channel_below _ _ _ c.in-Some.ensures.steps.0
 
-pub overflow_add-at : goal.overflow_add-at
-overflow_add-at c = let l = c.loop-left in let n = c.next_channel-next in omega (arith, put_room l.invariant.1 n.result.channel n.result.left n.ensures.0)
-
-pub loop-left-preserved : goal.loop-left-preserved
-loop-left-preserved c = let l = c.loop-left in
-    let n = c.next_channel-next in
-    (length-set l.words l.at c.datum.result ∙ l.invariant.0, rw c.datum.ensures (put_turn l.invariant.1 n.result.channel n.result.left n.ensures.0))
+pub loop-at-preserved : goal.loop-at-preserved
+loop-at-preserved c = let h = c.in-Some.ensures.steps in
+    let next : c.args.from + (c.loop-at.at-iterator.count + 1) ≡ c.args.from + c.loop-at.at-iterator.count + 1 = omega arith in
+    rw (c.datum.ensures, h.1, h.2, next) (put_turn c.loop-at.invariant h.0)
 
 pub returns : goal.returns
-returns c = put_over c.loop-left.invariant.1 (search rules)
+returns c = put_over c.loop-at.invariant c.in-None.ensures.steps.0.0
