@@ -3,7 +3,7 @@
 // Event blocks of the V830: one layout, written and read. Knows no module.
 ghost use Rattle.std.specs.Prelude.{◌≡◌, ◌≤◌};
 ghost use Rattle.std.specs.Int.Count.{ones_in};
-ghost use Rattle.layout.specs.Length.{words, event_length, events_in};
+ghost use Rattle.layout.specs.Length.{words, header_length, event_length, events_in};
 ghost use Rattle.layout.specs.Numbers.{refusal_number, reply_of};
 ghost use Rattle.layout.specs.Reader.{no_event};
 
@@ -132,11 +132,14 @@ pub(crate) fn enabled_channels(enable: u32) -> u32
 pub fn event_length(settings: Settings) -> Words
     ensures { result ≡ words (event_length settings) }
 {
-    let ones = enabled_channels(settings.enable);
-    if settings.header {
-        return Words(ones + 1);
-    }
-    Words(ones)
+    Words(enabled_channels(settings.enable) + u32::from(settings.header))
+}
+
+// The place of the first datum: behind the header, which is one word.
+pub(crate) fn data_place(settings: Settings) -> usize
+    ensures { result ≡ header_length settings }
+{
+    usize::from(settings.header)
 }
 
 // The events that the words stored are: divided by the event length, rounded up, 0 if none; none can be told where an

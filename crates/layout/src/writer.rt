@@ -6,7 +6,7 @@ ghost use Rattle.layout.specs.Writer.{fields_fit, fields_zero, zero_if_disabled,
 ghost use Rattle.std.proofs.lemmas.List.Edits.{sets};
 
 use crate::channels::Channels;
-use crate::{Answer, Event, Refusal, Settings, enabled_channels, event_length};
+use crate::{Answer, Event, Refusal, Settings, data_place, enabled_channels, event_length};
 
 // Writes an event to lent words: its own words and no others, none where it refuses.
 pub fn write_event(settings: Settings, event: Event, words: &mut [u32]) -> Answer
@@ -30,57 +30,35 @@ pub fn write_event(settings: Settings, event: Event, words: &mut [u32]) -> Answe
 fn is_writable(settings: Settings, event: Event) -> bool
     ensures { result ≡ writable settings event }
 {
-    if !fields_fit(event) {
-        return false;
-    }
-    if settings.header {
-        return counts_fit(settings, event);
-    }
-    if !fields_are_zero(event) {
-        return false;
-    }
-    counts_fit(settings, event)
+    fields_fit(event)
+        && (settings.header || fields_are_zero(event))
+        && counts_fit(settings, event)
 }
 
 // Whether the header's fields are within their bits.
 fn fields_fit(event: Event) -> bool
     ensures { result ≡ fields_fit event }
 {
-    if event.geo > 31 {
-        return false;
-    }
-    if event.source > 3 {
-        return false;
-    }
-    event.trigger <= 65535
+    event.geo <= 31 && event.source <= 3 && event.trigger <= 65535
 }
 
 // Whether the header's fields are 0, as they must be without header.
 fn fields_are_zero(event: Event) -> bool
     ensures { result ≡ fields_zero event }
 {
-    if event.geo != 0 {
-        return false;
-    }
-    if event.source != 0 {
-        return false;
-    }
-    event.trigger == 0
+    event.geo == 0 && event.source == 0 && event.trigger == 0
 }
 
 // Whether every count can be written.
 fn counts_fit(settings: Settings, event: Event) -> bool
     ensures { result ≡ counts_fit settings.short settings.enable event.counts }
 {
-    let counts = event.counts;
     let mut mask = settings.enable;
-    let mut k: usize = 0;
-    while k < 32 {
-        if !count_fits(settings.short, mask % 2, counts[k]) {
+    for count in event.counts {
+        if !count_fits(settings.short, mask % 2, count) {
             return false;
         }
         mask /= 2;
-        k += 1;
     }
     true
 }
@@ -89,23 +67,14 @@ fn counts_fit(settings: Settings, event: Event) -> bool
 fn count_fits(short: bool, bit: u32, count: u32) -> bool
     ensures { result ≡ count_fits short bit count }
 {
-    if !short {
-        return is_zero_if_disabled(bit, count);
-    }
-    if count >= 67108864 {
-        return false;
-    }
-    is_zero_if_disabled(bit, count)
+    (!short || count < 67108864) && is_zero_if_disabled(bit, count)
 }
 
 // Whether a disabled channel's count is 0.
 fn is_zero_if_disabled(bit: u32, count: u32) -> bool
     ensures { result ≡ zero_if_disabled bit count }
 {
-    if bit == 0 {
-        return count == 0;
-    }
-    true
+    bit != 0 || count == 0
 }
 
 // Writes the words of an event where there is room for them.
@@ -115,10 +84,8 @@ fn put_event(settings: Settings, event: Event, words: &mut [u32])
 {
     if settings.header {
         words[0] = header(settings, event);
-        put_data(settings, event, words, 1);
-        return;
     }
-    put_data(settings, event, words, 0);
+    put_data(settings, event, words, data_place(settings));
 }
 
 // The header of an event.
@@ -126,11 +93,8 @@ fn header(settings: Settings, event: Event) -> u32
     requires { (event.geo ≤ 31) × (event.source ≤ 3) × (event.trigger ≤ 65535) }
     ensures { result ≡ header_of settings event }
 {
-    let geo = event.geo;
     let ones = enabled_channels(settings.enable);
-    let source = event.source;
-    let trigger = event.trigger;
-    (geo << 27) + (1 << 26) + (ones << 18) + (source << 16) + trigger
+    (event.geo << 27) + (1 << 26) + (ones << 18) + (event.source << 16) + event.trigger
 }
 
 // Writes the data from a place on.
@@ -150,7 +114,8 @@ fn datum(short: bool, channel: u32, count: u32) -> u32
     ensures { result ≡ datum_of short channel count }
 {
     if short {
-        return channel * 134217728 + count % 67108864;
+        channel * 134217728 + count % 67108864
+    } else {
+        count
     }
-    count
 }
