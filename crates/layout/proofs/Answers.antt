@@ -40,13 +40,6 @@ link_onward : {A : Type 0} (t : Bool) (why : Refusal) (step : Result (Unit {0}) 
 link_onward true why step whole rest h = h
 link_onward false why step whole rest h = refl
 
-pub header_onward : {A : Type 0} (st : Settings) (h : ℕ) (rest : Result A Refusal) → Onward (header_answer st h passed) (header_answer st h rest) rest
-header_onward st h rest =
-    link_onward (eqb (h / 2 ^ 26 % 2) 1) NotAHeader _ _ rest
-    (link_onward (eqb (h / 2 ^ 24 % 4) 0) Bits25And24 _ _ rest
-    (link_onward (leb (h / 2 ^ 18 % 64) 32) CountAbove32 _ _ rest
-    (link_onward (eqb (h / 2 ^ 18 % 64) (ones_in 32 st.enable)) AnotherCount passed rest rest refl)))
-
 pub datum_onward : {A : Type 0} (k w : ℕ) (rest : Result A Refusal) → Onward (datum_answer k w passed) (datum_answer k w rest) rest
 datum_onward k w rest =
     link_onward (eqb (w / 2 ^ 26 % 2) 0) DatumWithBit26 _ _ rest
@@ -111,12 +104,6 @@ reads_done st ws o s l g e = rw (some _ s, some (length ws) (λ z. s (omega arit
     headed : (t : Bool) {a : Result Words Refusal} → (t ≡ true → GoodHeader st (get_or ws 0 0)) → a ≡ gives_length st → cond t (header_answer st (get_or ws 0 0) a) a ≡ gives_length st
     headed true f q = let h = f refl in rw (eq-eqb _ _ h.0, eq-eqb _ _ h.1, le-leb (get_or ws 0 0 / 2 ^ 18 % 64) 32 (omega (arith, h.2)), eq-eqb _ _ h.2) q
     headed false f q = q
-
--- with words to read, the header decides first, where there is one
-module _ (st : Settings) (ws : List ℕ) (s : event_length st ≡ 0 → ⊥) (l : length ws ≡ 0 → ⊥) where
-  pub read_by_header : (t : Bool) → st.header ≡ t → read_answer st ws ≡ cond t (header_answer st (get_or ws 0 0) (body_answer st ws)) (body_answer st ws)
-  unfolding read_answer
-  read_by_header t h = rw (some _ s, some _ l) (ap (λ (u : Bool). cond u (header_answer st (get_or ws 0 0) (body_answer st ws)) (body_answer st ws)) h)
 
 pub done_fits : (st : Settings) (ws : List ℕ) → no_refusal (read_answer st ws) ≡ true → event_length st ≤ length ws
 done_fits st ws d = (body_done st ws (read_done st ws d).2).0

@@ -44,9 +44,6 @@ pub record Putting (short : Bool) (counts whole ws : List ℕ) (at : ℕ) (ks : 
 
 module _ {short : Bool} {counts whole ws : List ℕ} {at : ℕ} {ks : List ℕ} (e : Putting short counts whole ws at ks) where
   module _ {k : ℕ} {others : List ℕ} (p : ks ≡ k ∷ others) where
-    pub put_room : at < length ws
-    put_room = let h : at + length (k ∷ others) ≤ length ws = rw p at e.fits in omega arith
-
     pub put_turn : Putting short counts whole (set ws at (datum_of short k (get_or counts k 0))) (at + 1) others
     put_turn = let h : at + length (k ∷ others) ≤ length ws = rw p at e.fits in
         record { stored = rw add-one (rw p at e.stored); fits = rw length-set (omega arith) }

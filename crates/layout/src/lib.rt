@@ -125,14 +125,19 @@ pub fn numbered(answer: Answer) -> Reply
 pub(crate) fn enabled_channels(enable: u32) -> u32
     ensures { (result ≡ ones_in 32 enable) × (result ≤ 32) }
 {
-    u32::count_ones(enable)
+    enable.count_ones()
 }
 
 // The length of an event: the ones of Channel Enable, plus 1 with header.
 pub fn event_length(settings: Settings) -> Words
     ensures { result ≡ words (event_length settings) }
 {
-    Words(enabled_channels(settings.enable) + u32::from(settings.header))
+    let ones = enabled_channels(settings.enable);
+    if settings.header {
+        Words(ones + 1)
+    } else {
+        Words(ones)
+    }
 }
 
 // The place of the first datum: behind the header, which is one word.

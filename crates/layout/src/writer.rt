@@ -9,6 +9,7 @@ use crate::channels::Channels;
 use crate::{Answer, Event, Refusal, Settings, data_place, enabled_channels, event_length};
 
 // Writes an event to lent words: its own words and no others, none where it refuses.
+#[tactic(auto, unfolding(crate::specs::Writer::write_answer, crate::specs::Writer::write_words))]
 pub fn write_event(settings: Settings, event: Event, words: &mut [u32]) -> Answer
     ensures { (result ≡ write_answer settings event words.old) × (words.new ≡ write_words settings event words.old) }
 {
@@ -27,12 +28,11 @@ pub fn write_event(settings: Settings, event: Event, words: &mut [u32]) -> Answe
 }
 
 // Whether an event can be written with these settings.
+#[tactic(auto, unfolding(crate::specs::Writer::writable))]
 fn is_writable(settings: Settings, event: Event) -> bool
     ensures { result ≡ writable settings event }
 {
-    fields_fit(event)
-        && (settings.header || fields_are_zero(event))
-        && counts_fit(settings, event)
+    fields_fit(event) && (settings.header || fields_are_zero(event)) && counts_fit(settings, event)
 }
 
 // Whether the header's fields are within their bits.

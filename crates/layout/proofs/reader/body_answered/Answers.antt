@@ -1,8 +1,7 @@
--- The tests of the definition, with the length as the code has it; behind data that are right nothing is refused.
--- Assumes nothing.
+-- Behind data that are right nothing is refused. Assumes nothing.
 use mathlib.Core.Path.{sym, ap, ◌∙◌}
 use Prim.Native.Nat.{◌≤◌}
-use borrow.Author.Tests.{lt-leb, le-leb}
+use borrow.Author.Tests.{le-leb}
 use lib.ListN.{length, drop}
 use Rattle.std.specs.Prelude.{Ok}
 use Rattle.std.proofs.lemmas.Result.{err_from_is_err_and}
@@ -12,10 +11,6 @@ use Rattle.layout.specs.Reader.{body_answer}
 use Rattle.layout.proofs.Answers.{data_onward}
 use Rattle.layout.proofs.Lengths.{length_of, behind_place, behind_header}
 use Rattle.layout.proofs.reader.body_answered.Goals as goal
-
-pub returns-then-words-length : goal.returns-then-words-length
-unfolding body_answer
-returns-then-words-length c = rw (length_of c.args.settings c.event_length-length.ensures, lt-leb _ _ c.if-words-length.true)
 
 pub data_answered-requires : goal.data_answered-requires
 data_answered-requires c = let s = c.args in
@@ -39,9 +34,3 @@ returns-in_ok-data_answered c = let s = c.args in
     let a = rw (behind_place s.words.now _ _ c.data_place.ensures) at c.data_answered.ensures in
     rw (le-leb (event_length s.settings) (length s.words.now) h, c.if-settings.true)
     (ap Ok c.event_length-length.ensures ∙ sym (rw (sym a ∙ c.in_ok-data_answered.was) at d))
-
-pub returns-else-settings : goal.returns-else-settings
-unfolding body_answer
-returns-else-settings c = let s = c.args in
-    let h : event_length s.settings ≤ length s.words.now = rw (length_of s.settings c.event_length-length.ensures) c.if-words-length.false in
-    rw (le-leb (event_length s.settings) (length s.words.now) h, c.if-settings.false) (ap Ok c.event_length-length.ensures)

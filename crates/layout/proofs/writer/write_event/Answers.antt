@@ -1,32 +1,16 @@
 -- The tests of the definition; an event that can be written has fields that fit its header. Assumes nothing.
-use borrow.Author.Tests.{lt-leb}
-use mathlib.Core.Path.{◌≡◌, refl, sym, ap, ◌∙◌}
+use mathlib.Core.Path.{◌≡◌, sym, ap, ◌∙◌}
 use mathlib.Core.Bool.{true, not}
 use Prim.Native.Nat.{◌≤◌}
 use lib.ListN.{length}
-use Rattle.count.proofs.Tests.{holds, fails}
+use Rattle.count.proofs.Tests.{holds}
 use Rattle.std.specs.Prelude.{Ok}
 use Rattle.layout.specs.Length.{event_length}
 use Rattle.layout.specs.Writer.{writable, write_answer, write_words}
 use Rattle.layout.proofs.Answers.{fields_fit_lem, writable_parts}
 use Rattle.layout.proofs.Written.{write_answers, stored_words_lem, write_leaves}
-use Rattle.layout.proofs.Lengths.{none, some, length_of}
+use Rattle.layout.proofs.Lengths.{length_of}
 use Rattle.layout.proofs.writer.write_event.Goals as goal
-
-pub returns-then-length-eq0 : goal.returns-then-length-eq0
-unfolding write_answer write_words
-returns-then-length-eq0 c = rw (length_of c.args.settings c.event_length-length.ensures, none _ c.if-length-eq0.true) (refl, refl)
-
-pub returns-then-not-is_writable : goal.returns-then-not-is_writable
-unfolding write_answer write_words
-returns-then-not-is_writable c = let w = c.is_writable in
-    rw (length_of c.args.settings c.event_length-length.ensures, some _ c.if-length-eq0.false, fails w.ensures (ap not c.if-not-is_writable.true)) (refl, refl)
-
-pub returns-then-words-length : goal.returns-then-words-length
-unfolding write_answer write_words
-returns-then-words-length c = let w = c.is_writable in
-    rw (length_of c.args.settings c.event_length-length.ensures, some _ c.if-length-eq0.false, holds w.ensures (ap not c.if-not-is_writable.false), lt-leb _ _ c.if-words-length.true)
-    (refl, refl)
 
 pub put_event-requires : goal.put_event-requires
 put_event-requires c = let s = c.args in
