@@ -25,7 +25,7 @@ function shape_of(line,    out, before, word) {
     out = out line
     # a constant of an enum is a constant, with its value or without, and so is an array of one; `name: value` is the
     # field `name`
-    while (gsub(/C\(o\)|\(Co\)/, "o", out) || gsub(/C/, "o", out) || gsub(/o:o|\[o;o\]/, "o", out)) continue
+    while (gsub(/C\([oC]\)|\(Co\)/, "o", out) || gsub(/C/, "o", out) || gsub(/o:o|\[o;o\]/, "o", out)) continue
     return out
 }
 

@@ -128,36 +128,38 @@ pub(crate) fn enabled_channels(enable: u32) -> u32
     enable.count_ones()
 }
 
-// The length of an event: the ones of Channel Enable, plus 1 with header.
-pub fn event_length(settings: Settings) -> Words
-    ensures { result ≡ words (event_length settings) }
-{
-    let ones = enabled_channels(settings.enable);
-    if settings.header {
-        Words(ones + 1)
-    } else {
-        Words(ones)
+impl Settings {
+    // The length of an event: the ones of Channel Enable, plus 1 with header.
+    pub fn event_length(self) -> Words
+        ensures { result ≡ words (event_length self) }
+    {
+        let ones = enabled_channels(self.enable);
+        if self.header {
+            Words(ones + 1)
+        } else {
+            Words(ones)
+        }
     }
-}
 
-// The place of the first datum: behind the header, which is one word.
-pub(crate) fn data_place(settings: Settings) -> usize
-    ensures { result ≡ header_length settings }
-{
-    usize::from(settings.header)
-}
+    // The place of the first datum: behind the header, which is one word.
+    pub(crate) fn data_place(self) -> usize
+        ensures { result ≡ header_length self }
+    {
+        usize::from(self.header)
+    }
 
-// The events that the words stored are: divided by the event length, rounded up, 0 if none; none can be told where an
-// event would have no words.
-pub fn events_in(settings: Settings, stored: Words) -> Option<Events>
-    ensures { result ≡ events_in settings stored.0 }
-{
-    let event = event_length(settings);
-    if stored.0 == 0 {
-        return Some(Events(0));
+    // The events that the words stored are: divided by the event length, rounded up, 0 if none; none can be told where
+    // an event would have no words.
+    pub fn events_in(self, stored: Words) -> Option<Events>
+        ensures { result ≡ events_in self stored.0 }
+    {
+        let event = self.event_length();
+        if stored.0 == 0 {
+            return Some(Events(0));
+        }
+        if event.0 == 0 {
+            return None;
+        }
+        Some(Events(stored.0.div_ceil(event.0)))
     }
-    if event.0 == 0 {
-        return None;
-    }
-    Some(Events(stored.0.div_ceil(event.0)))
 }

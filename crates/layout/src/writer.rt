@@ -6,14 +6,14 @@ ghost use Rattle.layout.specs.Writer.{fields_fit, fields_zero, zero_if_disabled,
 ghost use Rattle.std.proofs.lemmas.List.Edits.{sets};
 
 use crate::channels::Channels;
-use crate::{Answer, Event, Refusal, Settings, data_place, enabled_channels, event_length};
+use crate::{Answer, Event, Refusal, Settings, enabled_channels};
 
 // Writes an event to lent words: its own words and no others, none where it refuses.
 #[tactic(auto, unfolding(crate::specs::Writer::write_answer, crate::specs::Writer::write_words))]
 pub fn write_event(settings: Settings, event: Event, words: &mut [u32]) -> Answer
     ensures { (result ≡ write_answer settings event words.old) × (words.new ≡ write_words settings event words.old) }
 {
-    let length = event_length(settings);
+    let length = settings.event_length();
     if length.0 == 0 {
         return Err(Refusal::NoWords);
     }
@@ -85,7 +85,7 @@ fn put_event(settings: Settings, event: Event, words: &mut [u32])
     if settings.header {
         words[0] = header(settings, event);
     }
-    put_data(settings, event, words, data_place(settings));
+    put_data(settings, event, words, settings.data_place());
 }
 
 // The header of an event.

@@ -22,39 +22,76 @@ pub struct Handed {
     pub store: Store,
 }
 
-// A memory of so many words with none stored.
-pub fn empty(capacity: u32) -> Store
-    ensures { result ≡ empty_of capacity }
-{
-    Store {
-        capacity: Words(capacity),
-        first: 0,
-        stored: Words(0),
+impl Store {
+    // A memory of so many words with none stored.
+    pub fn empty(capacity: u32) -> Store
+        ensures { result ≡ empty_of capacity }
+    {
+        Store {
+            capacity: Words(capacity),
+            first: 0,
+            stored: Words(0),
+        }
     }
-}
 
-// With no words stored.
-pub fn emptied(m: Store) -> Store
-    ensures { result ≡ emptied m }
-{
-    empty(m.capacity.0)
-}
+    // With no words stored.
+    pub fn emptied(self) -> Store
+        ensures { result ≡ emptied self }
+    {
+        Store::empty(self.capacity.0)
+    }
 
-// Whether capacity, first place and stored words are within their bounds.
-pub fn fits(m: Store) -> bool
-    ensures { result ≡ fits m }
-{
-    1 <= m.capacity.0
-        && m.capacity.0 <= 32768
-        && m.first < m.capacity.0
-        && m.stored.0 <= m.capacity.0
-}
+    // Whether capacity, first place and stored words are within their bounds.
+    pub fn fits(self) -> bool
+        ensures { result ≡ fits self }
+    {
+        1 <= self.capacity.0
+            && self.capacity.0 <= 32768
+            && self.first < self.capacity.0
+            && self.stored.0 <= self.capacity.0
+    }
 
-// The words that are free.
-pub fn free(m: Store) -> Words
-    ensures { result ≡ free m }
-{
-    Words(m.capacity.0.saturating_sub(m.stored.0))
+    // The words that are free.
+    pub fn free(self) -> Words
+        ensures { result ≡ free self }
+    {
+        Words(self.capacity.0.saturating_sub(self.stored.0))
+    }
+
+    // Hands out the oldest word and removes it; nothing, where none is stored.
+    pub fn hand_out(self, memory: &[u32]) -> Option<Handed>
+        ensures { result ≡ handed_of self (lent memory.now) }
+    {
+        if self.stored.0 == 0 {
+            return None;
+        }
+        let store = Store {
+            first: place_behind(self.first, self.capacity.0),
+            stored: Words(self.stored.0 - 1),
+            ..self
+        };
+        Some(Handed {
+            word: word_at(memory, self.first as usize),
+            store,
+        })
+    }
+
+    // Puts an event's words behind those stored, if so many are free; else nothing of it.
+    pub fn put(self, memory: &mut [u32], words: &[u32]) -> Store
+        ensures { (result ≡ (put_of self (lent memory.old) words.now).store) × (memory.new ≡ (put_of self (lent memory.old) words.now).memory.words) }
+    {
+        let room = self.free();
+        if (room.0 as usize) < words.len() {
+            return self;
+        }
+        if !memory.is_empty() {
+            put_round(memory, self.first as usize + self.stored.0 as usize, words);
+        }
+        Store {
+            stored: Words(self.stored.0 + words.len() as u32),
+            ..self
+        }
+    }
 }
 
 // The place behind a place in a memory of so many words.
@@ -75,24 +112,6 @@ fn word_at(memory: &[u32], at: usize) -> u32
     memory.get(at).copied().unwrap_or(0)
 }
 
-// Hands out the oldest word and removes it; nothing, where none is stored.
-pub fn hand_out(m: Store, memory: &[u32]) -> Option<Handed>
-    ensures { result ≡ handed_of m (lent memory.now) }
-{
-    if m.stored.0 == 0 {
-        return None;
-    }
-    let store = Store {
-        first: place_behind(m.first, m.capacity.0),
-        stored: Words(m.stored.0 - 1),
-        ..m
-    };
-    Some(Handed {
-        word: word_at(memory, m.first as usize),
-        store,
-    })
-}
-
 // A number's place in a memory of that many words.
 fn place(n: usize, capacity: usize) -> usize
     requires { 0 < capacity }
@@ -110,22 +129,5 @@ fn put_round(memory: &mut [u32], from: usize, words: &[u32])
     for (j, word) in words.iter().enumerate() {
         let at = place(from + j, memory.len());
         memory[at] = *word;
-    }
-}
-
-// Puts an event's words behind those stored, if so many are free; else nothing of it.
-pub fn put(m: Store, memory: &mut [u32], words: &[u32]) -> Store
-    ensures { (result ≡ (put_of m (lent memory.old) words.now).store) × (memory.new ≡ (put_of m (lent memory.old) words.now).memory.words) }
-{
-    let room = free(m);
-    if (room.0 as usize) < words.len() {
-        return m;
-    }
-    if !memory.is_empty() {
-        put_round(memory, m.first as usize + m.stored.0 as usize, words);
-    }
-    Store {
-        stored: Words(m.stored.0 + words.len() as u32),
-        ..m
     }
 }

@@ -4,6 +4,7 @@ ghost use Rattle.v830.specs.State.{is_set, mode, settings, explained, formed, po
 
 use crate::{Tallies, V830};
 use layout::Settings;
+use meb::Store;
 
 // How triggers are made: not at all, at random or periodically.
 #[derive(Clone, Copy, PartialEq, Eq, Debug)]
@@ -43,7 +44,7 @@ impl V830 {
             counts: [0; 32],
             enable: 4294967295,
             geo,
-            store: meb::empty(capacity),
+            store: Store::empty(capacity),
             tallies: Tallies { triggers: 0 },
             control,
             veto: false,
@@ -74,7 +75,7 @@ impl V830 {
         ensures { result ≡ formed self }
     {
         self.geo <= 31
-            && meb::fits(self.store)
+            && self.store.fits()
             && self.is_explained()
             && Mode::of(self.control).is_some()
     }
