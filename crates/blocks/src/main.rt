@@ -14,6 +14,19 @@ use stdio::{Amiss, Listing};
 // The limits of the head's numbers: header, short, enable.
 const LIMITS: [u32; 3] = [1, 1, 4294967295];
 
+// A listing under way: the two buffers lent to it, where it stands in them, the layout of
+// its events, and the place in the input of the first captured word.
+#[derive(Drop)]
+struct Course<'a> {
+    rt: &'a HostRuntime,
+    buf: &'a mut [u8],
+    out: &'a mut [u8],
+    listing: Listing,
+    settings: Settings,
+    from: u64,
+    ghost had: { listing.have ≤ length buf.now },
+}
+
 // How many bytes of the input buffer are not used yet.
 fn unused(l: Listing) -> usize
     ensures { result ≡ l.have - l.used }
@@ -79,47 +92,56 @@ fn numbers_of(place: u64, reply: Reply, event: Event) -> [u64; 38]
 
 // Puts the line of the event at the first byte not used, and goes on behind it or ends the listing. The first captured
 // word stands at the input's place `from`.
-fn listed(out: &mut [u8], l: Listing, reply: Reply, event: Event, from: u64) -> Listing
+fn listed(out: &mut [u8], l: Listing, reading: Result<Read, Refusal>, from: u64) -> Listing
     ensures { result.have ≡ l.have }
 {
     let place = l.place(l.used).wrapping_sub(from) / 4;
+    let (reply, event) = shown(reading);
     let at = text::put_line(out, l.at, &numbers_of(place, reply, event));
-    let shown = Listing { at, ..l };
-    if reply.number != 0 {
-        return shown.stop(Some(Amiss::Refused(reply.number, place)));
-    }
-    Listing {
-        used: l.used.wrapping_add(4 * reply.value as usize),
-        ..shown
+    let next = Listing { at, ..l };
+    match reading {
+        Ok(read) => Listing {
+            used: l.used.wrapping_add(4 * read.length.0 as usize),
+            ..next
+        },
+        Err(why) => next.stop(Some(Amiss::Refused(why.number(), place))),
     }
 }
 
-// Lists the event that comes next, or reads on where its words are not all there, or ends the listing. A line has 38
-// numbers.
-fn turn(
-    rt: &HostRuntime,
-    buf: &mut [u8],
-    out: &mut [u8],
-    before: Listing,
-    settings: Settings,
-    from: u64,
-) -> Listing
-    requires { before.have ≤ length buf.old }
-    ensures { result.have ≤ length buf.old }
-{
-    let l = before.make_room(rt, out, 798);
-    if unused(l) < 4 && l.ended {
-        return l.end(out, Fault::Ends.number());
+impl Course<'_> {
+    // Lists the event that comes next, or reads on where its words are not all there, or ends the listing. A line has
+    // 38 numbers.
+    fn turn(&mut self) {
+        let l = self.listing.make_room(self.rt, self.out, 798);
+        self.listing = match self.next_event(l) {
+            Some(reading) if reading != Err(Refusal::WordsEnd) || l.ended => {
+                listed(self.out, l, reading, self.from)
+            }
+            None if l.ended => l.end(self.out, Fault::Ends.number()),
+            _ => l.flush(self.rt, self.out).read_on(self.rt, self.buf),
+        };
     }
-    if unused(l) < 4 {
-        return l.flush(rt, out).read_on(rt, buf);
+
+    // What is read of the event at the first byte not used, if there is a word of it.
+    fn next_event(&self, l: Listing) -> Option<Result<Read, Refusal>>
+        requires { l.have ≤ length self.now.buf.now }
+    {
+        if unused(l) < 4 {
+            return None;
+        }
+        Some(event_in(self.settings, &self.buf[l.used..l.have]))
     }
-    let reading = event_in(settings, &buf[l.used..l.have]);
-    if matches!(reading, Err(Refusal::WordsEnd)) && !l.ended {
-        return l.flush(rt, out).read_on(rt, buf);
+
+    // The listing, turn by turn, until it ends.
+    fn run(&mut self) -> Listing {
+        for _ in 0..stdio::TURNS {
+            if !self.listing.more {
+                break;
+            }
+            self.turn();
+        }
+        self.listing
     }
-    let (reply, event) = shown(reading);
-    listed(out, l, reply, event, from)
 }
 
 // Lists the events behind a head.
@@ -142,16 +164,20 @@ fn list_events(
         short: head.values[1] == 1,
         enable: head.values[2],
     };
-    let mut l = first;
-    l.used = head.after;
-    l.at = at;
-    for _ in 0..stdio::TURNS {
-        if !l.more {
-            break;
-        }
-        l = turn(rt, buf, out, l, settings, head.after as u64);
-    }
-    l
+    let listing = Listing {
+        used: head.after,
+        at,
+        ..first
+    };
+    let mut course = Course {
+        rt,
+        buf,
+        out,
+        listing,
+        settings,
+        from: head.after as u64,
+    };
+    course.run()
 }
 
 // The listing behind its beginning; a refused head is its fault line alone.
@@ -161,8 +187,7 @@ fn list(rt: &HostRuntime, buf: &mut [u8], out: &mut [u8], first: Listing) -> Lis
     if !first.more {
         return first;
     }
-    let have = first.have;
-    match head::read_head(&buf[..have], &LIMITS) {
+    match head::read_head(&buf[..first.have], &LIMITS) {
         Ok(head) => list_events(rt, buf, out, first, head),
         Err(fault) => first.fault(out, fault.number()),
     }

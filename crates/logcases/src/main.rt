@@ -6,6 +6,16 @@ ghost use Rattle.std.specs.Prelude.{◌≡◌, ◌≤◌, length, IfOk};
 use benchlog::{Fault, Fields, Numeral, Reading, Refused};
 use stdio::Listing;
 
+// A listing under way: the two buffers lent to it, and where it stands in them.
+#[derive(Drop)]
+struct Course<'a> {
+    rt: &'a HostRuntime,
+    buf: &'a mut [u8],
+    out: &'a mut [u8],
+    listing: Listing,
+    ghost had: { listing.have ≤ length buf.now },
+}
+
 // A case: its start, and where its bytes stand.
 #[derive(Clone, Copy)]
 struct Case {
@@ -86,21 +96,34 @@ fn put_case(rt: &HostRuntime, log: &[u8], start: usize, out: &mut [u8], before: 
     l
 }
 
-// Lists the case that comes next, or reads on, or ends the listing.
-fn turn(rt: &HostRuntime, buf: &mut [u8], out: &mut [u8], l: Listing) -> Listing
-    requires { l.have ≤ length buf.old }
-    ensures { result.have ≤ length buf.old }
-{
-    let have = l.have;
-    match read_case(&buf[..have], l.used) {
-        Ok(Case { start, from, to }) => {
-            let after = put_case(rt, &buf[from..to], start, out, l);
-            Listing { used: to, ..after }
+impl Course<'_> {
+    // Lists the case that comes next, or reads on, or ends the listing.
+    fn turn(&mut self) {
+        let l = self.listing;
+        self.listing = match read_case(&self.buf[..l.have], l.used) {
+            Ok(Case { start, from, to }) => {
+                let after = put_case(self.rt, &self.buf[from..to], start, self.out, l);
+                Listing { used: to, ..after }
+            }
+            Err(fault) if !l.ended && fault == Fault::Ends => {
+                l.flush(self.rt, self.out).read_on(self.rt, self.buf)
+            }
+            Err(fault) => {
+                let roomy = l.make_room(self.rt, self.out, 48);
+                roomy.end(self.out, fault.number())
+            }
+        };
+    }
+
+    // The listing, turn by turn, until it ends.
+    fn run(&mut self) {
+        for _ in 0..stdio::TURNS {
+            if !self.listing.more {
+                break;
+            }
+            self.turn();
         }
-        Err(fault) if !l.ended && fault == Fault::Ends => {
-            l.flush(rt, out).read_on(rt, buf)
-        }
-        Err(fault) => l.make_room(rt, out, 48).end(out, fault.number()),
+        self.listing.close(self.rt, self.out);
     }
 }
 
@@ -111,14 +134,14 @@ fn run(rt: &HostRuntime, buf: &mut [u8], out: &mut [u8]) {
         0,
         b"answer kind first second third place number value after\n",
     );
-    let mut l = Listing::begin(at);
-    for _ in 0..stdio::TURNS {
-        if !l.more {
-            break;
-        }
-        l = turn(rt, buf, out, l);
-    }
-    l.close(rt, out);
+    let listing = Listing::begin(at);
+    let mut course = Course {
+        rt,
+        buf,
+        out,
+        listing,
+    };
+    course.run();
 }
 
 // The two buffers, of 64 KiB each.
