@@ -48,6 +48,7 @@ pub struct Listing {
 }
 
 // Moves the bytes from `used` up to `have` to the front and reads more of standard input behind them.
+#[tactic(auto, using(crate::proofs::Moving::tail_kept))]
 pub fn refill(rt: &HostRuntime, buf: &mut [u8], used: usize, have: usize) -> Window
     ensures { Refilled buf.old used have buf.new result }
 {
@@ -59,7 +60,7 @@ pub fn refill(rt: &HostRuntime, buf: &mut [u8], used: usize, have: usize) -> Win
         };
     }
     let left = have - used;
-    shift(buf, used, left);
+    buf.copy_within(used..have, 0);
     match rt.stdin().read(&mut buf[left..]) {
         Ok(n) => Window {
             have: left + n,
@@ -78,20 +79,5 @@ fn unread(rt: &HostRuntime, left: usize, error: io::Error) -> Window
         have: left,
         ended: false,
         amiss: Some(Amiss::Read(failed(rt, b"failed read ", error))),
-    }
-}
-
-// Moves the `left` bytes from `used` on to the front.
-fn shift(buf: &mut [u8], used: usize, left: usize)
-    requires { used + left ≤ length buf.old }
-    ensures { take left buf.new ≡ take left (drop used buf.old) }
-{
-    if used == 0 {
-        return;
-    }
-    let mut i = 0;
-    while i < left {
-        buf[i] = buf[used + i];
-        i += 1;
     }
 }

@@ -26,13 +26,13 @@ impl fmt::Write for Named {
 
 // Says what failed, with the system's number and its words, and answers that number.
 pub(crate) fn failed(rt: &HostRuntime, what: &[u8], error: io::Error) -> u32 {
-    let number = match error.raw_os_error() {
-        Some(code) => number_of(code),
-        None => 0,
-    };
+    let number = error
+        .raw_os_error()
+        .and_then(|code| u32::try_from(code).ok())
+        .unwrap_or(0);
     let mut words = [0u8; 256];
     let from = text::put_text(&mut words, 0, what);
-    let at = text::put_number(&mut words, from, number as u64);
+    let at = text::put_number(&mut words, from, u64::from(number));
     fail(rt, &mut words, at, error);
     number
 }
@@ -60,18 +60,10 @@ fn put_name(words: &mut [u8], at: usize, error: io::Error) -> usize {
 fn name_end(bytes: &[u8], at: usize) -> usize
     ensures { result ≤ length bytes.now }
 {
-    let mut end = at.min(bytes.len());
-    for i in 1..bytes.len() {
-        if i < at && bytes[i - 1] == b' ' && bytes[i] == b'(' {
-            end = i - 1;
-        }
-    }
-    end
-}
-
-// The system's number of an error, which is above 0.
-fn number_of(error: i32) -> u32 {
-    if error > 0 { error as u32 } else { 0 }
+    let said = &bytes[..at.min(bytes.len())];
+    said.windows(2)
+        .rposition(|pair| pair == b" (".as_slice())
+        .unwrap_or(said.len())
 }
 
 // Says what is amiss with a listing; of a read or a write that failed it was said when it failed.
@@ -94,7 +86,7 @@ fn say_numbers(rt: &HostRuntime, word: &[u8], first: u64, second: u64) {
 
 // Writes the first `at` bytes to standard error; what cannot be written there can be said nowhere.
 fn complain(rt: &HostRuntime, words: &[u8], at: usize) {
-    if at <= words.len() {
-        let _ = rt.stderr().write_all(&words[..at]);
+    if let Some(line) = words.get(..at) {
+        let _ = rt.stderr().write_all(line);
     }
 }

@@ -88,11 +88,10 @@ digits_count (suc k) (suc j) n h l u =
     let o : 1 ≤ 10 ^ j = one-le-pow j 10 (omega arith) in
     rw (le-ltb n 10 (omega arith), length-append, digits_count k j (n / 10) (omega arith) (omega arith) (omega arith), add-one)
 
--- a number below 10 ^ many, and at least a tenth of that unless many is 1, has as many digits
-pub figures_many : (many n : ℕ) → 1 ≤ many → many ≤ 20 → 10 ^ many ≤ 10 * n + 10 * (2 - many) → n < 10 ^ many → many ≡ length (decimal n)
+-- a number from 10 ^ k on, or any where k is 0, and below ten times that has a digit more than k
+pub power_digits : (k n : ℕ) → k < 20 → 10 ^ k ≤ n + (1 - k) → n < 10 * 10 ^ k → k + 1 ≡ length (decimal n)
 unfolding decimal
-figures_many zero n h k l u = absurd (omega arith)
-figures_many (suc j) n h k l u = sym (digits_count 19 j n (omega arith) (omega (arith, pow-suc 10 j)) u)
+power_digits k n h l u = add-one k ∙ sym (digits_count 19 k n (omega arith) l (omega (arith, pow-suc 10 k)))
 
 -- the next number, where its last digit is not 0, has as many digits
 next_count : (k n m : ℕ) (b : Bool) → ltb n 10 ≡ b → ltb m 10 ≡ b → m / 10 ≡ n / 10 → length (digits_of (suc k) m) ≡ length (digits_of (suc k) n)

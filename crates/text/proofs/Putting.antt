@@ -1,15 +1,12 @@
--- Bytes put into a buffer: where they fit and where not, the buffer's length, and two puts that are one. Assumes
--- nothing.
+-- Bytes put into a buffer where they fit: the buffer's length, and two puts that are one. Assumes nothing.
 use Prim.Native.Nat.{ℕ, ◌+◌, ◌-◌, ◌≤◌, ◌<◌}
 use mathlib.Core.Path.{◌≡◌, refl, sym, ap, ap₂, ◌∙◌}
-use mathlib.Core.Bool.{Bool, true, false, cond, not}
 use mathlib.Core.List.{List, [], ◌++◌, append_assoc, append-nil}
 use native.Mathlib.Numerals.{add-one}
 use native.Mathlib.Omega.{arith}
-use borrow.Author.Tests.{le-leb, lt-leb, leb-true, leb-false, not-true, not-false}
-use lib.Dec.{leb}
+use borrow.Author.Tests.{le-leb}
 use lib.ListN.{length, get_or, set, take, drop, length-append, length-drop, drop_of_length-le}
-use lib.Seq.{sets, sets-eq, length-take-le, take_at, drop-append-add, drop-drop, paste, paste-zero, paste-suc, take-length}
+use lib.Seq.{sets, sets-eq, length-take-le, take_at, drop-append-add, drop-drop, paste, paste-zero, paste-suc}
 use Rattle.text.specs.Text.{put, after}
 
 module _ (out : List ℕ) (at : ℕ) (ws : List ℕ) where
@@ -23,9 +20,6 @@ module _ (out : List ℕ) (at : ℕ) (ws : List ℕ) where
     unfolding after
     after_fits = rw (le-leb (at + length ws) (length out) h)
 
-    pub put_paste : put out at ws ≡ paste out at ws (length ws)
-    put_paste = rw (put_fits, take-length)
-
     pub put_sets : put out at ws ≡ sets out at ws
     put_sets = put_fits ∙ sym (sets-eq ws out at h)
 
@@ -35,45 +29,11 @@ module _ (out : List ℕ) (at : ℕ) (ws : List ℕ) where
     pub length_put : length (put out at ws) ≡ length out
     length_put = rw (put_fits, length-append, head_length, length-drop) (omega arith)
 
-  -- they do not
-  module _ (h : length out < at + length ws) where
-    pub put_over : put out at ws ≡ out
-    unfolding put
-    put_over = rw (lt-leb (at + length ws) (length out) h)
-
-    pub after_over : after out at ws ≡ at
-    unfolding after
-    after_over = rw (lt-leb (at + length ws) (length out) h)
-
--- b is the test whether they fit
-module _ (out : List ℕ) (at : ℕ) (ws : List ℕ) (b : Bool) (e : b ≡ leb (at + length ws) (length out)) where
-  -- it fails: nothing is put
-  pub nothing_put : not b ≡ true → (at ≡ after out at ws) × (out ≡ put out at ws)
-  nothing_put n =
-      let h : length out < at + length ws = leb-false _ _ (sym e ∙ not-true b n) in
-      (sym (after_over out at ws h), sym (put_over out at ws h))
-
-  pub they_fit : not b ≡ false → at + length ws ≤ length out
-  they_fit n = leb-true _ _ (sym e ∙ not-false b n)
-
-  -- it holds, and they are copied whole
-  pub all_put : (n : not b ≡ false) (out₁ : List ℕ) → out₁ ≡ paste out at ws (length ws) → (at + length ws ≡ after out at ws) × (out₁ ≡ put out at ws)
-  all_put n out₁ p = (sym (after_fits out at ws (they_fit n)), p ∙ sym (put_paste out at ws (they_fit n)))
-
--- one byte more of those that are copied there
+-- one more of those that are copied there
 pub paste_one : (out₀ : List ℕ) (at : ℕ) (ws out : List ℕ) (i v : ℕ) → at + i < length out₀ → i < length ws → v ≡ get_or ws i 0
     → out ≡ paste out₀ at ws i
     → set out (at + i) v ≡ paste out₀ at ws (i + 1)
 paste_one out₀ at ws out i v h j e before = rw (before, e, add-one) (paste-suc out₀ at ws i 0 h j)
-
--- whether they fit or not, the place is at most that after them
-pub after_most : (out : List ℕ) (at : ℕ) (ws : List ℕ) (r : ℕ) → r ≡ after out at ws → r ≤ at + length ws
-unfolding after
-after_most out at ws r e = rw e (go (leb (at + length ws) (length out)))
-  where
-    go : (b : Bool) → cond b (at + length ws) at ≤ at + length ws
-    go true = omega arith
-    go false = omega arith
 
 pub put_nil : (out : List ℕ) (at : ℕ) → at ≤ length out → put out at [] ≡ out
 put_nil out at h = put_fits out at [] (omega arith) ∙ sym (paste-zero out at [])

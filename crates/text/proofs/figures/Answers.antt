@@ -1,34 +1,15 @@
-use Prim.Native.Nat.{◌^◌, ◌<◌}
-use mathlib.Core.Path.{◌≡◌, refl, sym}
-use native.Mathlib.Nat.{pow-suc, pow-le-pow_right}
-use native.Mathlib.Numerals.{add-one}
-use native.Mathlib.Omega.{arith}
-use Rattle.text.proofs.Decimal.{figures_many}
-use borrow.Author.Rules.{rules}
+-- One less than the figures is the greatest power of ten that is not above the number; 0 has one. Assumes nothing.
+use Rattle.std.proofs.Common.{◌≡◌, ℕ, ◌+◌, ◌*◌, ◌^◌, ◌<◌, ◌≤◌, Option, None, Some, IfNone, IfSome, length, ap, ◌∙◌, arith}
+use Rattle.std.specs.Option.{unwrap_or}
+use Rattle.text.specs.Text.{decimal}
+use Rattle.text.proofs.Decimal.{power_digits}
 use Rattle.text.proofs.figures.Goals as goal
-use Rattle.text.proofs.figures.Goals.{then-loop-many-test+else-n-bound, else-loop-many-test}
 
-pub loop-many-init : goal.loop-many-init
-loop-many-init c = (search rules, search rules, refl, omega arith)
-
-pub overflow_mul-bound : goal.overflow_mul-bound
-overflow_mul-bound c = let l = c.loop-many in omega (arith, pow-le-pow_right {n = 10} (omega arith) {i = l.many} {j = 18} (omega arith))
-
-pub loop-many-preserved : goal.loop-many-preserved
-loop-many-preserved c = let l = c.loop-many in
-    let n = c.args.n in
-    (search rules, search rules, rw (l.invariant.2, add-one) (sym (pow-suc 10 l.many)), omega arith)
-
-pub returns-then-n-ge10000000000000000000 : goal.returns-then-n-ge10000000000000000000
-returns-then-n-ge10000000000000000000 c = figures_many 20 c.args.n (omega arith) (omega arith) (search rules) (search rules)
+one_more : (n : ℕ) (k : Option ℕ) → IfNone k (n ≡ 0) → IfSome k (λ k. 10 ^ k ≤ n) → IfSome k (λ k. n < 10 * 10 ^ k) → IfSome k (λ k. k < 20)
+    → unwrap_or k 0 + 1 ≡ length (decimal n)
+one_more n None none least below bound = power_digits 0 n (omega arith) (omega arith) (omega arith)
+one_more n (Some k) none least below bound = power_digits k n bound (omega arith) below
 
 pub returns : goal.returns
-returns c =
-    let l = c.loop-many in
-    let n = c.args.n in
-    let below : n < 10 ^ l.many =
-    elim c.loop-many-test.branch [
-      | then-loop-many-test+else-n-bound w ↦ (let t : n < l.bound = omega arith in omega arith)
-      | else-loop-many-test w ↦ (let e : l.many ≡ 19 = omega arith in rw e c.if-n-ge10000000000000000000.false)
-    ] in
-    figures_many l.many n (omega arith) (omega arith) (omega arith) below
+returns c = let k = c.checked_ilog10 in
+    ap (λ (k : ℕ). k + 1) c.unwrap_or.ensures ∙ one_more c.args.n k.result k.ensures.none k.ensures.power_le k.ensures.next_power_gt k.ensures.bound
