@@ -5,13 +5,14 @@
 # those not so.
 
 # The function that holds a line of a file of src/, by its path in the crate.
+# What a function as a whole owes is told at the line of its attribute where it has one.
 function function_at(file, row,    path, module, type, found, line, word) {
     path = file
     sub(/^src\//, "", path)
     sub(/\.rt$/, "", path)
     gsub(/\//, "::", path)
     module = path ~ /^(lib|main)$/ ? "" : path "::"
-    while (row-- > 0 && (getline line < (crate "/" file)) > 0) {
+    while ((row-- > 0 || line ~ /^ *#\[/) && (getline line < (crate "/" file)) > 0) {
         if (line ~ /^}/) type = ""
         if (line ~ /^impl[ <]/) {
             type = line

@@ -1,28 +1,7 @@
 // What a program says on standard error: one line, where its listing is not whole.
-ghost use Rattle.std.specs.Prelude.{◌≤◌, length};
-
 use crate::Amiss;
-use std::fmt::Write;
-use std::{fmt, io};
-
-// What the system calls an error, as text that is put into a buffer as far as it fits.
-#[derive(Clone, Copy)]
-struct Named {
-    bytes: [u8; 128],
-    at: usize,
-}
-
-impl fmt::Write for Named {
-    fn write_str(&mut self, s: &str) -> fmt::Result {
-        for byte in s.as_bytes() {
-            if self.at < 128 {
-                self.bytes[self.at] = *byte;
-                self.at += 1;
-            }
-        }
-        Ok(())
-    }
-}
+use std::io;
+use std::io::Write;
 
 // Says what failed, with the system's number and its words, and answers that number.
 pub(crate) fn failed(rt: &HostRuntime, what: &[u8], error: io::Error) -> u32 {
@@ -43,27 +22,24 @@ fn fail(rt: &HostRuntime, words: &mut [u8], at: usize, error: io::Error) {
     complain(rt, words, end);
 }
 
-// Puts a colon, what the system calls an error, and a line feed.
+// Puts a colon, what the system calls an error, as far as 128 bytes hold it, and a line feed.
 fn put_name(words: &mut [u8], at: usize, error: io::Error) -> usize {
-    let mut named = Named {
-        bytes: [0; 128],
-        at: 0,
-    };
-    let _ = write!(named, "{error}");
-    let end = name_end(&named.bytes, named.at);
+    let mut said = io::Cursor::new([0u8; 128]);
+    let _ = write!(said, "{error}");
     let from = text::put_text(words, at, b": ");
-    let behind = text::put_text(words, from, &named.bytes[..end]);
+    let behind = text::put_text(
+        words,
+        from,
+        name_in(said.get_ref(), said.position() as usize),
+    );
     text::put_text(words, behind, b"\n")
 }
 
-// Where what the system calls an error ends: in front of the number that stands behind it in brackets.
-fn name_end(bytes: &[u8], at: usize) -> usize
-    ensures { result ≤ length bytes.now }
-{
-    let said = &bytes[..at.min(bytes.len())];
-    said.windows(2)
-        .rposition(|pair| pair == b" (".as_slice())
-        .unwrap_or(said.len())
+// What the system calls an error, of the first `many` bytes: what stands in front of the number in brackets.
+fn name_in(bytes: &[u8], many: usize) -> &[u8] {
+    let said = &bytes[..many.min(bytes.len())];
+    let bracket = said.windows(2).rposition(|pair| pair == b" (".as_slice());
+    &said[..bracket.unwrap_or(said.len())]
 }
 
 // Says what is amiss with a listing; of a read or a write that failed it was said when it failed.
