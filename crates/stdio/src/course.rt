@@ -4,7 +4,7 @@ ghost use Rattle.text.specs.Line.{failed_line, put_in};
 ghost use Rattle.stdio.specs.Window.{room_at};
 ghost use Rattle.stdio.specs.Listings.{begun, place_of, ReadOn, moved_to, is_lost, lost_by, written_by, roomy_by, stopped, faulted, fault_text, end_of, end_text, closed_text};
 
-use crate::words::{failed, say};
+use crate::words::{number_of, say, say_failed};
 use crate::{Amiss, Listing, refill};
 use std::io;
 
@@ -89,7 +89,11 @@ impl Listing {
         }
         match write_whole(rt, &out[..self.at]) {
             Ok(()) => self.moved(0),
-            Err(error) => self.lost(Some(Amiss::Write(failed(rt, b"failed write ", error)))),
+            Err(error) => {
+                let amiss = Amiss::Write(number_of(&error));
+                say_failed(rt, amiss, error);
+                self.lost(Some(amiss))
+            }
         }
     }
 

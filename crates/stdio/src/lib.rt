@@ -6,7 +6,7 @@ ghost use Rattle.stdio.specs.Window.{Refilled, Left};
 
 use std::io;
 use std::io::Read;
-use words::failed;
+use words::{number_of, say_failed};
 
 mod course;
 mod words;
@@ -75,9 +75,11 @@ pub fn refill(rt: &HostRuntime, buf: &mut [u8], used: usize, have: usize) -> Win
 fn unread(rt: &HostRuntime, left: usize, error: io::Error) -> Window
     ensures { (result.have ≡ left) × Left left result result.amiss }
 {
+    let amiss = Amiss::Read(number_of(&error));
+    say_failed(rt, amiss, error);
     Window {
         have: left,
         ended: false,
-        amiss: Some(Amiss::Read(failed(rt, b"failed read ", error))),
+        amiss: Some(amiss),
     }
 }
