@@ -3,13 +3,12 @@
 use Rattle.std.proofs.Common.{◌≡◌, ℕ, zero, suc, ◌+◌, ◌-◌, ◌*◌, ◌/◌, ◌%◌, ◌^◌, ◌<◌, ◌≤◌, Bool, true, false, ltb, leb, List, [], ◌∷◌, ◌++◌, length, sym, refl, ap, ◌∙◌, ap₂, append_assoc, append-nil, add-zero, mul_assoc, pow-suc, mul-one, mul-div_cancel, arith, length-append, pow-add, ltb-false, ltb-true, le-leb}
 use native.Mathlib.Nat.{pow-zero, one-le-pow, mul-mod_left}
 use lib.Arith.{digits_div, digits_mod, mod-mul}
+use Rattle.std.specs.Int.{bytes_high_first}
 use Rattle.text.specs.Line.{line, put_in, after_in}
 use Rattle.text.specs.Text.{put, after, decimal}
 use Rattle.text.proofs.Decimal.{last_digits, decimal_last, decimal_one, decimal_next, decimal_round, line_least, length_line}
 use Rattle.text.proofs.Putting.{put_more, put_again, length_put, after_fits}
-use Rattle.night.specs.declared.Taken.{Taken}
-use Rattle.night.specs.declared.tally.Tally.{Tally}
-use Rattle.night.specs.Tallies.{word_of, bytes_of, tally_of}
+use Rattle.night.specs.Tallies.{word_of, bytes_of}
 
 -- eight digits are four and four
 pub word_halves : (n : ℕ) → word_of 8 n ≡ word_of 4 (n / 10000) * 4294967296 + word_of 4 n
@@ -83,27 +82,27 @@ counted_two n m h e z t f u =
     let r = round_numbers n m s d c in
     (word_round 6 n m r.0 r.1 d r.2, ap (λ (x : ℕ). length (decimal x)) s ∙ decimal_round n (two_digits n f) d (λ x. c (tens_nine (n / 10) x)))
 
--- a tally of any number is that of its own
-pub tells : (t : Tally) (n : ℕ) → t ≡ tally_of n → t ≡ tally_of t.number
-tells t n e = e ∙ ap tally_of (sym (ap (λ (x : Tally). x.number) e))
-
--- the tally goes with the night: t₁ is counted up where an entry is taken, which makes m + 1 of m entries
-pub counted_on : (t t₁ : Tally) (m : ℕ) (k : Taken) → t ≡ tally_of m → t₁ ≡ tally_of ((t.number + 1) % 2 ^ 64)
-    → k.night.entries ≡ (m + 1) % 2 ^ 64 → k.entry ≡ (m + 1) % 2 ^ 64
-    → (t₁ ≡ tally_of k.night.entries) × (t₁.number ≡ k.entry)
-counted_on t t₁ m k p q f g =
-    let s : t₁ ≡ tally_of ((m + 1) % 2 ^ 64) = q ∙ ap (λ (x : Tally). tally_of ((x.number + 1) % 2 ^ 64)) p in
-    (s ∙ ap tally_of (sym f), ap (λ (x : Tally). x.number) s ∙ sym g)
-
 -- a number's last byte, and those before it
 byte_cons : (k w x b : ℕ) → b < 256 → w ≡ x * 256 + b → bytes_of (suc k) w ≡ bytes_of k x ++ (b ∷ [])
 unfolding bytes_of
 byte_cons k w x b l e = rw e (ap₂ (λ (y z : ℕ). bytes_of k y ++ (z ∷ [])) (digits_div x l) (digits_mod x l))
 
-length_bytes : (k w : ℕ) → length (bytes_of k w) ≡ k
+pub length_bytes : (k w : ℕ) → length (bytes_of k w) ≡ k
 unfolding bytes_of
 length_bytes zero w = refl
 length_bytes (suc k) w = rw (length-append, length_bytes k (w / 256)) (omega arith)
+
+-- they are the bytes of the word, the highest first
+pub high_first : (w : ℕ) → bytes_high_first 8 w ≡ bytes_of 8 w
+unfolding bytes_of
+high_first w =
+    let e2 : w / 256 ^ 2 ≡ w / 256 / 256 = omega arith in
+    let e3 : w / 256 ^ 3 ≡ w / 256 / 256 / 256 = omega arith in
+    let e4 : w / 256 ^ 4 ≡ w / 256 / 256 / 256 / 256 = omega arith in
+    let e5 : w / 256 ^ 5 ≡ w / 256 / 256 / 256 / 256 / 256 = omega arith in
+    let e6 : w / 256 ^ 6 ≡ w / 256 / 256 / 256 / 256 / 256 / 256 = omega arith in
+    let e7 : w / 256 ^ 7 ≡ w / 256 / 256 / 256 / 256 / 256 / 256 / 256 = omega arith in
+    rw (e2, e3, e4, e5, e6, e7)
 
 -- the last k digits are the last k bytes of the word
 digit_bytes : (k j n : ℕ) → bytes_of k (word_of (k + j) n) ≡ last_digits k n

@@ -1,8 +1,6 @@
 -- The number of an entry, counted up as its line shows it: what the functions of src/tally.rt promise each other, and
 -- no public one speaks of. Assumes nothing.
-use Rattle.std.specs.Prelude.{ℕ, zero, suc, ◌+◌, ◌*◌, ◌/◌, ◌%◌, List, [], ◌∷◌, ◌++◌, length}
-use Rattle.text.specs.Text.{decimal}
-use Rattle.night.specs.declared.tally.Tally.{Tally}
+use Rattle.std.specs.Prelude.{ℕ, zero, suc, ◌+◌, ◌*◌, ◌/◌, ◌%◌, List, [], ◌∷◌, ◌++◌}
 
 -- the last k decimal digits of n, as the bytes of a number, the highest digit in the highest byte
 unfoldable pub word_of : ℕ → ℕ → ℕ
@@ -13,7 +11,3 @@ word_of (suc k) n = word_of k (n / 10) * 256 + (48 + n % 10)
 unfoldable pub bytes_of : ℕ → ℕ → List ℕ
 bytes_of zero w = []
 bytes_of (suc k) w = bytes_of k (w / 256) ++ ((w % 256) ∷ [])
-
--- a number, its last eight digits, and how many it has
-abbrev pub tally_of : ℕ → Tally
-tally_of n = record { number = n; word = word_of 8 n; figures = length (decimal n) }

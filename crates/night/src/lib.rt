@@ -13,13 +13,13 @@ ghost use Rattle.night.specs.Runs.{replay_for, run_for, part_of, part_behind, st
 
 mod tally;
 
-use crate::tally::{counted_to, counted_up, put_entry};
+use crate::tally::Tally;
 use benchlog::{Entry, Fault, Reading};
 use bus::Refusal;
 use v830::V830;
 
 // Where a replay stands: the module, the entries taken, and the log's place of the next byte.
-#[derive(Clone, Copy)]
+#[derive(Clone, Copy, PartialEq, Eq, Debug)]
 pub struct Night {
     pub v830: V830,
     pub entries: u64,
@@ -27,7 +27,7 @@ pub struct Night {
 }
 
 // An entry taken: the night after it, and the three numbers of its line.
-#[derive(Clone, Copy)]
+#[derive(Clone, Copy, PartialEq, Eq, Debug)]
 pub struct Taken {
     pub night: Night,
     pub entry: u64,
@@ -37,7 +37,7 @@ pub struct Taken {
 
 // What comes next in a listing: further lines, or bytes of the log first; nothing, at the log's end or behind the line
 // of a fault, with its number; or why nothing of it is run.
-#[derive(Clone, Copy)]
+#[derive(Clone, Copy, PartialEq, Eq, Debug)]
 pub enum Next {
     Lines,
     Bytes,
@@ -47,7 +47,7 @@ pub enum Next {
 }
 
 // A part of a listing: the night after it, the bytes used of the log, those put out, and what is next.
-#[derive(Clone, Copy)]
+#[derive(Clone, Copy, PartialEq, Eq, Debug)]
 pub struct Part {
     pub night: Night,
     pub used: usize,
@@ -59,10 +59,8 @@ pub struct Part {
 pub fn begin(memory: &[u32]) -> Night
     ensures { result ≡ begun_at (lent memory.now) }
 {
-    let o = v830::start(0, memory);
-    let v830 = o.state;
     Night {
-        v830,
+        v830: v830::start(0, memory).state,
         entries: 0,
         place: 0,
     }
@@ -80,19 +78,15 @@ fn take(night: Night, memory: &mut [u32], entry: Entry, bytes: usize) -> Taken
     requires { (formed night.v830 ≡ true) × (length memory.old ≡ night.v830.store.capacity.0) }
     ensures { (result ≡ taken_of night (lent memory.old) entry bytes) × (memory.new ≡ (stepped night (lent memory.old) entry).memory.words) }
 {
-    let before = night.v830;
-    let o = v830::step_formed(before, memory, logged::call_830_of(entry));
-    let answer = o.answer;
-    let reply = bus::numbered(answer);
-    let v830 = o.state;
-    let entries = std::num::wrapping_add_u64(night.entries, 1);
-    let after = Night {
-        v830,
-        entries,
-        place: std::num::wrapping_add_u64(night.place, bytes as u64),
-    };
+    let o = v830::step_formed(night.v830, memory, logged::call_830_of(entry));
+    let reply = bus::numbered(o.answer);
+    let entries = night.entries.wrapping_add(1);
     Taken {
-        night: after,
+        night: Night {
+            v830: o.state,
+            entries,
+            place: night.place.wrapping_add(bytes as u64),
+        },
         entry: entries,
         answer: reply.number,
         value: reply.value,
@@ -118,9 +112,8 @@ fn run(night: Night, memory: &mut [u32], log: &[u8], last: bool, out: &mut [u8])
     let mut now = night;
     let mut used: usize = 0;
     let mut at: usize = 0;
-    let mut left = out.len() / 63;
-    let mut number = counted_to(night.entries);
-    while left > 0 {
+    let mut number = Tally::counted_to(night.entries);
+    for _ in 0..out.len() / 63 {
         match benchlog::read_entry(&log[used..], 0) {
             Err(refused) => {
                 return stop(now, &log[used..], last, refused.fault, used, out, at);
@@ -128,10 +121,9 @@ fn run(night: Night, memory: &mut [u32], log: &[u8], last: bool, out: &mut [u8])
             Ok(Reading { entry, next }) => {
                 let taken = take(now, memory, entry, next);
                 now = taken.night;
-                number = counted_up(number);
-                at = put_entry(out, at, number, taken.answer, taken.value);
+                number = number.counted_up();
+                at = number.put_entry(out, at, taken.answer, taken.value);
                 used += next;
-                left -= 1;
             }
         }
     }
