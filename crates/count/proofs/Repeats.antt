@@ -1,24 +1,24 @@
 -- A step made n times, one after the other. Assumes nothing.
-use Prim.Native.Nat.{ℕ, zero, suc, ◌+◌, ◌-◌, ◌<◌, ◌≤◌}
+use Prim.Native.Nat.{ℕ, zero, suc, ◌+◌}
 use mathlib.Core.Path.{◌≡◌, refl, ap, ◌∙◌}
 use native.Mathlib.Nat.{zero-add, suc-add}
-use native.Mathlib.Omega.{arith}
 use Rattle.count.specs.Counter.{iterate}
-
-module _ {A : Type 0} (f : A → A) (s : A) (n : ℕ) where
-  pub iterate_turn : 0 < n → iterate n f s ≡ iterate (n - 1) f (f s)
-  unfolding iterate
-  iterate_turn h = let e : n ≡ suc (n - 1) = omega arith in ap (λ (m : ℕ). iterate m f s) e
-
-  pub iterate_over : n ≤ 0 → iterate n f s ≡ s
-  unfolding iterate
-  iterate_over h = let e : n ≡ 0 = omega arith in rw e
 
 -- a step made m times and then n times
 pub iterate_add : {A : Type 0} (m n : ℕ) (f : A → A) (s : A) → iterate (m + n) f s ≡ iterate n f (iterate m f s)
 unfolding iterate
 iterate_add zero n f s = rw zero-add
 iterate_add (suc m) n f s = rw suc-add (iterate_add m n f (f s))
+
+module _ {A : Type 0} (f : A → A) (s : A) where
+  pub iterate_none : iterate 0 f s ≡ s
+  unfolding iterate
+  iterate_none = refl
+
+  -- and once more
+  pub iterate_more : (n : ℕ) → iterate (n + 1) f s ≡ f (iterate n f s)
+  unfolding iterate
+  iterate_more n = iterate_add n 1 f s
 
 -- what a step does to what is seen of a state, as long as the state keeps to `Fit`, n steps do n times
 pub iterate_seen : {A B : Type 0} (step : A → A) (g : B → B) (see : A → B) (Fit : A → Type 0)

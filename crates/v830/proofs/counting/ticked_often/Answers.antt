@@ -1,13 +1,16 @@
--- A turn is one tick, and at the end none is left. Assumes nothing.
-use Rattle.std.proofs.Common.{◌≡◌, ◌+◌, ◌-◌, sym, ◌∙◌, arith}
+-- A turn is one tick more, and the last turn is the n-th. Assumes nothing.
+use Rattle.std.proofs.Common.{◌≡◌, sym, ap, ◌∙◌, arith}
 use Rattle.count.specs.Counter.{next}
-use Rattle.count.proofs.Repeats.{iterate_turn, iterate_over}
+use Rattle.count.proofs.Repeats.{iterate_none, iterate_more}
 use Rattle.v830.proofs.counting.ticked_often.Goals as goal
 
+pub loop-init : goal.loop-init
+loop-init c = sym (iterate_none (next 32) c.args.count)
+
 pub loop-preserved : goal.loop-preserved
-loop-preserved c = let l = c.loop in
-    let e : c.args.n - (l.counter + 1) ≡ c.args.n - l.counter - 1 = omega arith in
-    rw (c.tick-count.ensures, e) (sym (iterate_turn (next 32) l.count (c.args.n - l.counter) (omega arith)) ∙ l.invariant)
+loop-preserved c = rw c.tick-count.ensures (ap (next 32) c.loop.invariant ∙ sym (iterate_more (next 32) c.args.count c.loop.counter))
 
 pub returns : goal.returns
-returns c = let l = c.loop in sym (iterate_over (next 32) l.count (c.args.n - l.counter) (omega arith)) ∙ l.invariant
+returns c =
+    let all : c.loop.counter ≡ c.args.n = omega (arith, c.loop-test.false, c.loop.auto.counter-end) in
+    rw (← all) c.loop.invariant
