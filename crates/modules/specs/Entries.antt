@@ -6,10 +6,12 @@ use Rattle.logged.specs.Entries.{access_for, call830_of}
 use Rattle.meb.specs.Ring.{Memory}
 use Rattle.scaler.specs.declared.Call.{Call}
 use Rattle.scaler.specs.declared.Call.TheVariants as call
-use Rattle.v260.specs.declared.Outcome as o260
-use Rattle.v260.specs.Calls as v260
-use Rattle.v560.specs.declared.Outcome as o560
-use Rattle.v560.specs.Calls as v560
+use Rattle.scaler.specs.declared.module.Outcome.{Outcome}
+use Rattle.scaler.specs.Calls.{step_of}
+use Rattle.v260.specs.declared.V260.{V260}
+use Rattle.v260.specs.Module.{v260}
+use Rattle.v560.specs.declared.V560.{V560}
+use Rattle.v560.specs.Module.{v560}
 use Rattle.v830.specs.declared.Outcome as o830
 use Rattle.v830.specs.Calls as v830
 use Rattle.modules.specs.declared.Held.{Held}
@@ -29,10 +31,10 @@ call_of (entry.Write offset width word) = call.Access (access_for true offset wi
 call_of entry.ManClr = call.ManClr
 
 -- the answer's number and value, "and what the module holds after it"
-abbrev pub after260 : o260.Outcome → Held
+abbrev pub after260 : Outcome V260 → Held
 after260 o = record { answer = o.answer; «module» = held.V260 o.state o.interrupter }
 
-abbrev pub after560 : o560.Outcome → Held
+abbrev pub after560 : Outcome V560 → Held
 after560 o = record { answer = o.answer; «module» = held.V560 o.state o.interrupter }
 
 -- a V830 has no interrupter
@@ -41,8 +43,8 @@ after830 o = record { answer = o.answer; «module» = held.V830 o.state }
 
 -- the module after an entry
 abbrev pub acted_as : Module → Memory → Entry → Held
-acted_as (held.V260 s i) memory e = after260 (v260.step_of s i (call_of e))
-acted_as (held.V560 s i) memory e = after560 (v560.step_of s i (call_of e))
+acted_as (held.V260 s i) memory e = after260 (step_of v260 s i (call_of e))
+acted_as (held.V560 s i) memory e = after560 (step_of v560 s i (call_of e))
 acted_as (held.V830 s) memory e = after830 (v830.step_of s memory (call830_of e)).outcome
 
 abbrev pub acted : Held → Memory → Entry → Held

@@ -2,10 +2,11 @@
 use Rattle.std.specs.Prelude.{ℕ, ◌/◌, ◌%◌, ◌^◌, List, eqb, get_or, take, drop, min}
 use Rattle.meb.specs.Ring.{Memory}
 use Rattle.scaler.specs.Orders.{counting}
-use Rattle.v260.specs.declared.Outcome as o260
+use Rattle.scaler.specs.declared.module.Outcome.{Outcome}
 use Rattle.v260.specs.declared.Switches.{Switches}
+use Rattle.v260.specs.declared.V260.{V260}
 use Rattle.v260.specs.Outcomes as v260
-use Rattle.v560.specs.declared.Outcome as o560
+use Rattle.v560.specs.declared.V560.{V560}
 use Rattle.v560.specs.Outcomes as v560
 use Rattle.v830.specs.declared.Outcome as o830
 use Rattle.v830.specs.Outcomes as v830
@@ -27,11 +28,11 @@ switches_of values =
 
 -- "The counts `c0` to `c15` (V830: `c31`), any numbers, are then put into the record that the start gave, whatever it
 -- answered"
-abbrev pub counted260 : List ℕ → o260.Outcome → o260.Outcome
+abbrev pub counted260 : List ℕ → Outcome V260 → Outcome V260
 counted260 counts o =
     record { answer = o.answer; state = v260.scaled (counting counts o.state.scales) o.state; interrupter = o.interrupter }
 
-abbrev pub counted560 : List ℕ → o560.Outcome → o560.Outcome
+abbrev pub counted560 : List ℕ → Outcome V560 → Outcome V560
 counted560 counts o =
     record { answer = o.answer; state = v560.scaled (counting counts o.state.scales) o.state; interrupter = o.interrupter }
 

@@ -5,7 +5,12 @@
 -- `stdio::flush`, `stdio::make_room` and `head::begin` (docs/PROMISES.md says of each what that leaves open). Assumes
 -- nothing.
 use Prim.Native.Nat.{ℕ}
-use mathlib.Core.Path.{ap₂}
+use denote.Param.Laws.{Laws, IsCopy}
+use denote.RattleType.{RattleType}
+use mir.Syntax.{Dict}
+use Rattle.std.specs.declared.clone.Clone as clone
+use Rattle.scaler.specs.declared.module.Scaler as scaler
+use mathlib.Core.Path.{◌≡◌, ap₂}
 use mathlib.Core.List.{List}
 use Rattle.count.specs.Determined.{OneResult, OneContent, OneOutcome}
 use Rattle.count.proofs.Determined.{determined}
@@ -39,36 +44,35 @@ use Rattle.layout.proofs.write_event.Reads as layout-write-event
 use Rattle.scaler.proofs.Scales.power_on.Reads as scaler-power-on
 use Rattle.scaler.proofs.Scales.is_inhibited.Reads as scaler-is-inhibited
 use Rattle.scaler.proofs.obey.Reads as scaler-obey
-use Rattle.v560.proofs.by_value.access.Reads as v560-by-value-access
-use Rattle.v560.proofs.by_value.pulses.Reads as v560-by-value-pulses
-use Rattle.v560.proofs.by_value.test.Reads as v560-by-value-test
-use Rattle.v560.proofs.by_value.clear_line.Reads as v560-by-value-clear-line
-use Rattle.v560.proofs.by_value.veto_line.Reads as v560-by-value-veto-line
-use Rattle.v560.proofs.by_value.man_clr.Reads as v560-by-value-man-clr
-use Rattle.v560.proofs.by_value.step.Reads as v560-by-value-step
+use Rattle.scaler.proofs.module.Outcome.refused.Reads as scaler-refused
+use Rattle.scaler.proofs.module.Outcome.done.Reads as scaler-done
+use Rattle.scaler.specs.contracts.module.Outcome.lent as scaler-lent
+use Rattle.scaler.proofs.module.Scaler.scales.Reads as scaler-scales
+use Rattle.scaler.proofs.module.Scaler.scaled.Reads as scaler-scaled
+use Rattle.scaler.proofs.module.Scaler.register.Reads as scaler-register
+use Rattle.scaler.proofs.module.Scaler.is_formed.Reads as scaler-is-formed
+use Rattle.scaler.proofs.module.Scaler.is_unjoined.Reads as scaler-is-unjoined
+use Rattle.scaler.proofs.module.Scaler.width.Reads as scaler-width
+use Rattle.scaler.proofs.module.Scaler.is_ignored.Reads as scaler-is-ignored
+use Rattle.scaler.proofs.module.Scaler.counts_after.Reads as scaler-counts-after
+use Rattle.scaler.proofs.module.Scaler.watched.Reads as scaler-watched
+use Rattle.scaler.proofs.module.Scaler.table.Reads as scaler-table
+use Rattle.scaler.proofs.by_value.access.Reads as scaler-by-value-access
+use Rattle.scaler.proofs.by_value.pulses.Reads as scaler-by-value-pulses
+use Rattle.scaler.proofs.by_value.test.Reads as scaler-by-value-test
+use Rattle.scaler.proofs.by_value.clear_line.Reads as scaler-by-value-clear-line
+use Rattle.scaler.proofs.by_value.veto_line.Reads as scaler-by-value-veto-line
+use Rattle.scaler.proofs.by_value.man_clr.Reads as scaler-by-value-man-clr
+use Rattle.scaler.proofs.by_value.step.Reads as scaler-by-value-step
+use Rattle.scaler.specs.contracts.in_place.access as scaler-in-place-access
+use Rattle.scaler.specs.contracts.in_place.pulses as scaler-in-place-pulses
+use Rattle.scaler.specs.contracts.in_place.test as scaler-in-place-test
+use Rattle.scaler.specs.contracts.in_place.clear_line as scaler-in-place-clear-line
+use Rattle.scaler.specs.contracts.in_place.veto_line as scaler-in-place-veto-line
+use Rattle.scaler.specs.contracts.in_place.man_clr as scaler-in-place-man-clr
+use Rattle.scaler.specs.contracts.in_place.step as scaler-in-place-step
 use Rattle.v560.proofs.start.Reads as v560-start
-use Rattle.v560.specs.contracts.in_place.access as v560-in-place-access
-use Rattle.v560.specs.contracts.in_place.pulses as v560-in-place-pulses
-use Rattle.v560.specs.contracts.in_place.test as v560-in-place-test
-use Rattle.v560.specs.contracts.in_place.clear_line as v560-in-place-clear-line
-use Rattle.v560.specs.contracts.in_place.veto_line as v560-in-place-veto-line
-use Rattle.v560.specs.contracts.in_place.man_clr as v560-in-place-man-clr
-use Rattle.v560.specs.contracts.in_place.step as v560-in-place-step
-use Rattle.v260.proofs.by_value.access.Reads as v260-by-value-access
-use Rattle.v260.proofs.by_value.pulses.Reads as v260-by-value-pulses
-use Rattle.v260.proofs.by_value.test.Reads as v260-by-value-test
-use Rattle.v260.proofs.by_value.clear_line.Reads as v260-by-value-clear-line
-use Rattle.v260.proofs.by_value.veto_line.Reads as v260-by-value-veto-line
-use Rattle.v260.proofs.by_value.man_clr.Reads as v260-by-value-man-clr
-use Rattle.v260.proofs.by_value.step.Reads as v260-by-value-step
 use Rattle.v260.proofs.start.Reads as v260-start
-use Rattle.v260.specs.contracts.in_place.access as v260-in-place-access
-use Rattle.v260.specs.contracts.in_place.pulses as v260-in-place-pulses
-use Rattle.v260.specs.contracts.in_place.test as v260-in-place-test
-use Rattle.v260.specs.contracts.in_place.clear_line as v260-in-place-clear-line
-use Rattle.v260.specs.contracts.in_place.veto_line as v260-in-place-veto-line
-use Rattle.v260.specs.contracts.in_place.man_clr as v260-in-place-man-clr
-use Rattle.v260.specs.contracts.in_place.step as v260-in-place-step
 use Rattle.v830.proofs.step.Reads as v830-step
 use Rattle.v830.proofs.start.Reads as v830-start
 use Rattle.v830.proofs.gate.Reads as v830-gate
@@ -192,97 +196,99 @@ one_scaler_is_inhibited κ given first second e d p q = determined p q
 pub one_scaler_obey : OneResult scaler-obey.Post
 one_scaler_obey κ given first second e d p q = determined p q
 
+module _ (T : RattleType) (l : Laws T) where
+  pub one_scaler_refused : OneResult (scaler-refused.Post T l)
+  one_scaler_refused κ given first second e d p q = determined p q
+
+  pub one_scaler_done : OneResult (scaler-done.Post T l)
+  one_scaler_done κ given first second e d p q = determined p q
+
+pub one_scaler_lent : {M : Type 1} (T : RattleType) → OneLent {M = M} (scaler-lent.ended T) (λ 𝓤. scaler-lent.clauses T {𝓤 = 𝓤}) (λ κ e. e.1.0.now)
+one_scaler_lent T 𝓤 𝓛 mem run κ given x first second e d = both_determined 𝓤 _ _ _ _ _ _
+
+-- of every module of sixteen scales, and so of the V260 and of the V560: its states T, what it has of its own and its
+-- code, g and d, and how a state is copied
+module _ (T : RattleType) (l : Laws T) (y : IsCopy T) (g : scaler.Ghosts T.Denot) (d : Dict) (c : clone.Ghosts T.Denot) (b : Dict) where
+  pub one_scaler_scales : OneResult (scaler-scales.Post T l y g d c b)
+  one_scaler_scales κ given first second e r p q = determined p q
+
+  pub one_scaler_scaled : OneResult (scaler-scaled.Post T l y g d c b)
+  one_scaler_scaled κ given first second e r p q = determined p q
+
+  pub one_scaler_register : OneResult (scaler-register.Post T l y g d c b)
+  one_scaler_register κ given first second e r p q = determined p q
+
+  pub one_scaler_is_formed : OneResult (scaler-is-formed.Post T l y g d c b)
+  one_scaler_is_formed κ given first second e r p q = determined p q
+
+  pub one_scaler_is_unjoined : OneResult (scaler-is-unjoined.Post T l y g d c b)
+  one_scaler_is_unjoined κ given first second e r p q = determined p q
+
+  pub one_scaler_width : OneResult (scaler-width.Post T l y g d c b)
+  one_scaler_width κ given first second e r p q = determined p q
+
+  pub one_scaler_is_ignored : OneResult (scaler-is-ignored.Post T l y g d c b)
+  one_scaler_is_ignored κ given first second e r p q = determined p q
+
+  pub one_scaler_counts_after : OneResult (scaler-counts-after.Post T l y g d c b)
+  one_scaler_counts_after κ given first second e r p q = determined p q
+
+  pub one_scaler_watched : OneResult (scaler-watched.Post T l y g d c b)
+  one_scaler_watched κ given first second e r p q = determined p q
+
+  -- what is lent of the table; where it lies is not said
+  pub one_scaler_table : (κ : _) (given : _) (first second : _) (e r : _) → scaler-table.Post T l y g d c b κ given first e → scaler-table.Post T l y g d c b κ given second r → first.now ≡ second.now
+  one_scaler_table κ given first second e r p q = determined p q
+
+  pub one_scaler_by_value_access : OneResult (scaler-by-value-access.Post T l y g d c b)
+  one_scaler_by_value_access κ given first second e d p q = determined p q
+
+  pub one_scaler_by_value_pulses : OneResult (scaler-by-value-pulses.Post T l y g d c b)
+  one_scaler_by_value_pulses κ given first second e d p q = determined p q
+
+  pub one_scaler_by_value_test : OneResult (scaler-by-value-test.Post T l y g d c b)
+  one_scaler_by_value_test κ given first second e d p q = determined p q
+
+  pub one_scaler_by_value_clear_line : OneResult (scaler-by-value-clear-line.Post T l y g d c b)
+  one_scaler_by_value_clear_line κ given first second e d p q = determined p q
+
+  pub one_scaler_by_value_veto_line : OneResult (scaler-by-value-veto-line.Post T l y g d c b)
+  one_scaler_by_value_veto_line κ given first second e d p q = determined p q
+
+  pub one_scaler_by_value_man_clr : OneResult (scaler-by-value-man-clr.Post T l y g d c b)
+  one_scaler_by_value_man_clr κ given first second e d p q = determined p q
+
+  pub one_scaler_by_value_step : OneResult (scaler-by-value-step.Post T l y g d c b)
+  one_scaler_by_value_step κ given first second e d p q = determined p q
+
+  pub one_scaler_in_place_access : {M : Type 1} → OneLent {M = M} (scaler-in-place-access.ended T g d c b) (λ 𝓤. scaler-in-place-access.clauses T g d c b {𝓤 = 𝓤}) (λ κ e. e.1.0.now)
+  one_scaler_in_place_access 𝓤 𝓛 mem run κ given x first second e d = both_determined 𝓤 _ _ _ _ _ _
+
+  pub one_scaler_in_place_pulses : {M : Type 1} → OneLent {M = M} (scaler-in-place-pulses.ended T g d c b) (λ 𝓤. scaler-in-place-pulses.clauses T g d c b {𝓤 = 𝓤}) (λ κ e. e.1.0.now)
+  one_scaler_in_place_pulses 𝓤 𝓛 mem run κ given x first second e d = both_determined 𝓤 _ _ _ _ _ _
+
+  pub one_scaler_in_place_test : {M : Type 1} → OneLent {M = M} (scaler-in-place-test.ended T g d c b) (λ 𝓤. scaler-in-place-test.clauses T g d c b {𝓤 = 𝓤}) (λ κ e. e.1.0.now)
+  one_scaler_in_place_test 𝓤 𝓛 mem run κ given x first second e d = both_determined 𝓤 _ _ _ _ _ _
+
+  pub one_scaler_in_place_clear_line : {M : Type 1} → OneLent {M = M} (scaler-in-place-clear-line.ended T g d c b) (λ 𝓤. scaler-in-place-clear-line.clauses T g d c b {𝓤 = 𝓤}) (λ κ e. e.1.0.now)
+  one_scaler_in_place_clear_line 𝓤 𝓛 mem run κ given x first second e d = both_determined 𝓤 _ _ _ _ _ _
+
+  pub one_scaler_in_place_veto_line : {M : Type 1} → OneLent {M = M} (scaler-in-place-veto-line.ended T g d c b) (λ 𝓤. scaler-in-place-veto-line.clauses T g d c b {𝓤 = 𝓤}) (λ κ e. e.1.0.now)
+  one_scaler_in_place_veto_line 𝓤 𝓛 mem run κ given x first second e d = both_determined 𝓤 _ _ _ _ _ _
+
+  pub one_scaler_in_place_man_clr : {M : Type 1} → OneLent {M = M} (scaler-in-place-man-clr.ended T g d c b) (λ 𝓤. scaler-in-place-man-clr.clauses T g d c b {𝓤 = 𝓤}) (λ κ e. e.1.0.now)
+  one_scaler_in_place_man_clr 𝓤 𝓛 mem run κ given x first second e d = both_determined 𝓤 _ _ _ _ _ _
+
+  pub one_scaler_in_place_step : {M : Type 1} → OneLent {M = M} (scaler-in-place-step.ended T g d c b) (λ 𝓤. scaler-in-place-step.clauses T g d c b {𝓤 = 𝓤}) (λ κ e. e.1.0.now)
+  one_scaler_in_place_step 𝓤 𝓛 mem run κ given x first second e d = both_determined 𝓤 _ _ _ _ _ _
+
 -- ---- v560
-pub one_v560_by_value_access : OneResult v560-by-value-access.Post
-one_v560_by_value_access κ given first second e d p q = determined p q
-
-pub one_v560_by_value_pulses : OneResult v560-by-value-pulses.Post
-one_v560_by_value_pulses κ given first second e d p q = determined p q
-
-pub one_v560_by_value_test : OneResult v560-by-value-test.Post
-one_v560_by_value_test κ given first second e d p q = determined p q
-
-pub one_v560_by_value_clear_line : OneResult v560-by-value-clear-line.Post
-one_v560_by_value_clear_line κ given first second e d p q = determined p q
-
-pub one_v560_by_value_veto_line : OneResult v560-by-value-veto-line.Post
-one_v560_by_value_veto_line κ given first second e d p q = determined p q
-
-pub one_v560_by_value_man_clr : OneResult v560-by-value-man-clr.Post
-one_v560_by_value_man_clr κ given first second e d p q = determined p q
-
-pub one_v560_by_value_step : OneResult v560-by-value-step.Post
-one_v560_by_value_step κ given first second e d p q = determined p q
-
 pub one_v560_start : OneResult v560-start.Post
 one_v560_start κ given first second e d p q = determined p q
 
-pub one_v560_in_place_access : {M : Type 1} → OneLent {M = M} v560-in-place-access.ended (λ 𝓤. v560-in-place-access.clauses {𝓤 = 𝓤}) (λ κ e. e.1.0.now)
-one_v560_in_place_access 𝓤 𝓛 mem run κ given g first second e d = both_determined 𝓤 _ _ _ _ _ _
-
-pub one_v560_in_place_pulses : {M : Type 1} → OneLent {M = M} v560-in-place-pulses.ended (λ 𝓤. v560-in-place-pulses.clauses {𝓤 = 𝓤}) (λ κ e. e.1.0.now)
-one_v560_in_place_pulses 𝓤 𝓛 mem run κ given g first second e d = both_determined 𝓤 _ _ _ _ _ _
-
-pub one_v560_in_place_test : {M : Type 1} → OneLent {M = M} v560-in-place-test.ended (λ 𝓤. v560-in-place-test.clauses {𝓤 = 𝓤}) (λ κ e. e.1.0.now)
-one_v560_in_place_test 𝓤 𝓛 mem run κ given g first second e d = both_determined 𝓤 _ _ _ _ _ _
-
-pub one_v560_in_place_clear_line : {M : Type 1} → OneLent {M = M} v560-in-place-clear-line.ended (λ 𝓤. v560-in-place-clear-line.clauses {𝓤 = 𝓤}) (λ κ e. e.1.0.now)
-one_v560_in_place_clear_line 𝓤 𝓛 mem run κ given g first second e d = both_determined 𝓤 _ _ _ _ _ _
-
-pub one_v560_in_place_veto_line : {M : Type 1} → OneLent {M = M} v560-in-place-veto-line.ended (λ 𝓤. v560-in-place-veto-line.clauses {𝓤 = 𝓤}) (λ κ e. e.1.0.now)
-one_v560_in_place_veto_line 𝓤 𝓛 mem run κ given g first second e d = both_determined 𝓤 _ _ _ _ _ _
-
-pub one_v560_in_place_man_clr : {M : Type 1} → OneLent {M = M} v560-in-place-man-clr.ended (λ 𝓤. v560-in-place-man-clr.clauses {𝓤 = 𝓤}) (λ κ e. e.1.0.now)
-one_v560_in_place_man_clr 𝓤 𝓛 mem run κ given g first second e d = both_determined 𝓤 _ _ _ _ _ _
-
-pub one_v560_in_place_step : {M : Type 1} → OneLent {M = M} v560-in-place-step.ended (λ 𝓤. v560-in-place-step.clauses {𝓤 = 𝓤}) (λ κ e. e.1.0.now)
-one_v560_in_place_step 𝓤 𝓛 mem run κ given g first second e d = both_determined 𝓤 _ _ _ _ _ _
-
 -- ---- v260
-pub one_v260_by_value_access : OneResult v260-by-value-access.Post
-one_v260_by_value_access κ given first second e d p q = determined p q
-
-pub one_v260_by_value_pulses : OneResult v260-by-value-pulses.Post
-one_v260_by_value_pulses κ given first second e d p q = determined p q
-
-pub one_v260_by_value_test : OneResult v260-by-value-test.Post
-one_v260_by_value_test κ given first second e d p q = determined p q
-
-pub one_v260_by_value_clear_line : OneResult v260-by-value-clear-line.Post
-one_v260_by_value_clear_line κ given first second e d p q = determined p q
-
-pub one_v260_by_value_veto_line : OneResult v260-by-value-veto-line.Post
-one_v260_by_value_veto_line κ given first second e d p q = determined p q
-
-pub one_v260_by_value_man_clr : OneResult v260-by-value-man-clr.Post
-one_v260_by_value_man_clr κ given first second e d p q = determined p q
-
-pub one_v260_by_value_step : OneResult v260-by-value-step.Post
-one_v260_by_value_step κ given first second e d p q = determined p q
-
 pub one_v260_start : OneResult v260-start.Post
 one_v260_start κ given first second e d p q = determined p q
-
-pub one_v260_in_place_access : {M : Type 1} → OneLent {M = M} v260-in-place-access.ended (λ 𝓤. v260-in-place-access.clauses {𝓤 = 𝓤}) (λ κ e. e.1.0.now)
-one_v260_in_place_access 𝓤 𝓛 mem run κ given g first second e d = both_determined 𝓤 _ _ _ _ _ _
-
-pub one_v260_in_place_pulses : {M : Type 1} → OneLent {M = M} v260-in-place-pulses.ended (λ 𝓤. v260-in-place-pulses.clauses {𝓤 = 𝓤}) (λ κ e. e.1.0.now)
-one_v260_in_place_pulses 𝓤 𝓛 mem run κ given g first second e d = both_determined 𝓤 _ _ _ _ _ _
-
-pub one_v260_in_place_test : {M : Type 1} → OneLent {M = M} v260-in-place-test.ended (λ 𝓤. v260-in-place-test.clauses {𝓤 = 𝓤}) (λ κ e. e.1.0.now)
-one_v260_in_place_test 𝓤 𝓛 mem run κ given g first second e d = both_determined 𝓤 _ _ _ _ _ _
-
-pub one_v260_in_place_clear_line : {M : Type 1} → OneLent {M = M} v260-in-place-clear-line.ended (λ 𝓤. v260-in-place-clear-line.clauses {𝓤 = 𝓤}) (λ κ e. e.1.0.now)
-one_v260_in_place_clear_line 𝓤 𝓛 mem run κ given g first second e d = both_determined 𝓤 _ _ _ _ _ _
-
-pub one_v260_in_place_veto_line : {M : Type 1} → OneLent {M = M} v260-in-place-veto-line.ended (λ 𝓤. v260-in-place-veto-line.clauses {𝓤 = 𝓤}) (λ κ e. e.1.0.now)
-one_v260_in_place_veto_line 𝓤 𝓛 mem run κ given g first second e d = both_determined 𝓤 _ _ _ _ _ _
-
-pub one_v260_in_place_man_clr : {M : Type 1} → OneLent {M = M} v260-in-place-man-clr.ended (λ 𝓤. v260-in-place-man-clr.clauses {𝓤 = 𝓤}) (λ κ e. e.1.0.now)
-one_v260_in_place_man_clr 𝓤 𝓛 mem run κ given g first second e d = both_determined 𝓤 _ _ _ _ _ _
-
-pub one_v260_in_place_step : {M : Type 1} → OneLent {M = M} v260-in-place-step.ended (λ 𝓤. v260-in-place-step.clauses {𝓤 = 𝓤}) (λ κ e. e.1.0.now)
-one_v260_in_place_step 𝓤 𝓛 mem run κ given g first second e d = both_determined 𝓤 _ _ _ _ _ _
 
 -- ---- v830
 pub one_v830_step : OneOutcome v830-step.Post (λ κ e. e.1.0.now)

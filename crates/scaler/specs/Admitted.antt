@@ -8,8 +8,10 @@ use Rattle.bus.specs.Answers.{admitted}
 use Rattle.bus.specs.Table.{look_up}
 use Rattle.scaler.specs.declared.Call.{Call}
 use Rattle.scaler.specs.declared.Call.TheVariants.{Pulses, VetoLine, Test, ClearLine, Trigger, Access, ManClr}
+use Rattle.scaler.specs.declared.module.Outcome.{Outcome}
 use Rattle.scaler.specs.Orders.{inhibited}
 use Rattle.scaler.specs.Module.{Module}
+use Rattle.scaler.specs.Calls.{step_of}
 use Rattle.scaler.specs.Rows.{scale_increase, clear_access}
 
 -- whether an access reaches this row
@@ -45,8 +47,8 @@ no_clear registers [] = true
 no_clear registers (c ∷ cs) = not (clears registers c) && no_clear registers cs
 
 -- the pulses that a list of calls, one after the other, admits to channel f
-abbrev pub admitted_to : {S O : Type 0} → Module S O → ℕ → List Call → O → ℕ
+abbrev pub admitted_to : {S : Type 0} → Module S → ℕ → List Call → Outcome S → ℕ
 admitted_to m f [] o = 0
 admitted_to m f (c ∷ cs) o =
-    let t = m.step (m.state o) (m.interrupter o) c in
-    admitted (m.answer t) (inhibited (m.scales (m.state o))) (pulses_to m.registers f c) + admitted_to m f cs t
+    let t = step_of m o.state o.interrupter c in
+    admitted t.answer (inhibited (m.scales o.state)) (pulses_to m.registers f c) + admitted_to m f cs t

@@ -1,7 +1,9 @@
 pub mod Rows
 pub mod Orders
 pub mod Clock
+pub mod Outcomes
 pub mod Module
+pub mod Calls
 pub mod Held
 pub mod Admitted
 pub mod Refusals

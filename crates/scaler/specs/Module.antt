@@ -1,32 +1,30 @@
--- A module of sixteen scales, seen from outside: what is said of the V260 and of the V560 alike is said of these
--- words (document 01). Assumes nothing.
-use Rattle.std.specs.Prelude.{Bool, List, [], ◌∷◌}
-use Rattle.bus.specs.Answers.{Answer}
+-- A module of sixteen scales: what the V260 and the V560 each have of their own. All that is said of both alike is
+-- said of these words (document 01). Assumes nothing.
+use Rattle.std.specs.Prelude.{ℕ, Bool, List, Option}
+use Rattle.count.specs.declared.Width.{Width}
+use Rattle.bus.specs.declared.Access.{Access}
 use Rattle.bus.specs.declared.interrupter.Interrupter.{Interrupter}
 use Rattle.bus.specs.declared.table.Row.{Row}
-use Rattle.scaler.specs.declared.Call.{Call}
 use Rattle.scaler.specs.declared.Scales.{Scales}
+use Rattle.scaler.specs.declared.module.Outcome.{Outcome}
 
--- its states S, and what a call gives, O
-pub record Module (S O : Type 0) : Type 0 where
-  -- "Every one returns its number, value 0 .. and the old state, interrupter included": the three parts of what a
-  -- call gives
-  pub answer : O → Answer
-  pub state : O → S
-  pub interrupter : O → Interrupter
-  -- the counts, the latches and the two vetoes of a state
+-- of a module with the states S
+pub record Module (S : Type 0) : Type 0 where
+  -- the counts, the latches and the two vetoes of a state, and a state with others
   pub scales : S → Scales
-  -- "Offsets, widths and rights stand in one constant table per module"
+  pub scaled : Scales → S → S
+  -- "Offsets, widths and rights stand in one constant table per module", and what an access does at the rows that
+  -- the other module has otherwise: the row and the place in it
   pub registers : List Row
-  -- any call
-  pub step : S → Interrupter → Call → O
+  pub register : ℕ → ℕ → S → Interrupter → Access → Outcome S
   -- not 12: "a count above its width", "level above 7"
   pub formed : S → Interrupter → Bool
   -- not 4: "TEST or Scale Increase with any channel joined"
   pub unjoined : S → Bool
-
-module _ {S O : Type 0} (m : Module S O) where
-  -- a list of calls, one after the other
-  abbrev pub called_of : List Call → O → O
-  called_of [] o = o
-  called_of (c ∷ cs) o = called_of cs (m.step (m.state o) (m.interrupter o) c)
+  -- "V260 (16 channels of 24 bits), V560 (16 of 32)"
+  pub width : Width
+  -- the inputs that do nothing, and the counts after a pulse on another
+  pub ignores : S → ℕ → Bool
+  pub pulsed : S → ℕ → List ℕ
+  -- the bit of a channel that is watched, if one is
+  pub watched : S → ℕ → Option ℕ

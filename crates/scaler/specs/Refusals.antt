@@ -6,19 +6,21 @@ use Rattle.bus.specs.Answers.{Answer, number_of, value_of, is_done}
 use Rattle.bus.specs.Table.{table_number}
 use Rattle.scaler.specs.declared.Call.{Call}
 use Rattle.scaler.specs.declared.Call.TheVariants as call
+use Rattle.scaler.specs.declared.module.Outcome.{Outcome}
+use Rattle.scaler.specs.declared.module.Lent.{Lent}
 use Rattle.scaler.specs.Module.{Module}
 use Rattle.scaler.specs.Rows.{scale_increase}
 
 -- "Every one returns its number, value 0 .. and the old state, interrupter included": of a call on state s with
--- interrupter i, which hands back l (its answer and its state are read off it) and leaves the interrupter j
-abbrev pub Untouched : {S L : Type 0} → (L → Answer) → (L → S) → S → Interrupter → L → Interrupter → Type 0
-Untouched answer state s i l j = is_done (answer l) ≡ false → (state l ≡ s) × (j ≡ i) × (value_of (answer l) ≡ 0)
+-- interrupter i, which answers with `answer` and leaves the state t and the interrupter j
+abbrev pub Untouched : {S : Type 0} → Answer → S → Interrupter → S → Interrupter → Type 0
+Untouched answer s i t j = is_done answer ≡ false → (t ≡ s) × (j ≡ i) × (value_of answer ≡ 0)
 
-module _ {S O : Type 0} (m : Module S O) where
-  -- the same of what a call by value gives
-  abbrev pub Same : S → Interrupter → O → Type 0
-  Same s i o = Untouched m.answer m.state s i o (m.interrupter o)
+-- the same of what a call by value gives
+abbrev pub Same : {S : Type 0} → S → Interrupter → Outcome S → Type 0
+Same s i o = Untouched o.answer s i o.state o.interrupter
 
+module _ {S : Type 0} (m : Module S) where
   -- 4: "TEST or Scale Increase with any channel joined"
   abbrev pub test_number : S → ℕ
   test_number s = cond (m.unjoined s) 0 4
@@ -35,6 +37,7 @@ module _ {S O : Type 0} (m : Module S O) where
       cond (m.formed s i) (table_number 0 m.registers a (λ at. cond (eqb at scale_increase) (test_number s) 0)) 12
   number_for s i call.ManClr = cond (m.formed s i) 0 12
 
-  -- of a call that is lent the interrupter: its number is the one above, and where it is refused nothing is touched
-  abbrev pub LentAnswered : {L : Type 0} → (L → Answer) → (L → S) → S → Interrupter → Call → L → Interrupter → Type 0
-  LentAnswered answer state s i c l j = (number_of (answer l) ≡ number_for s i c) × Untouched answer state s i l j
+  -- of a call on state s that was lent the interrupter i, handed back l and left j: its number is the one above, and
+  -- where it is refused nothing is touched
+  abbrev pub LentAnswered : S → Interrupter → Call → Lent S → Interrupter → Type 0
+  LentAnswered s i c l j = (number_of l.answer ≡ number_for s i c) × Untouched l.answer s i l.state j

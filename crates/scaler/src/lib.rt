@@ -8,10 +8,15 @@ ghost use Rattle.scaler.specs.Orders.{fresh, inhibited, zeroed, vetoed, lined, b
 use bus::Access;
 use bus::interrupter::Interrupter;
 
+pub mod by_value;
+mod counting;
+pub mod in_place;
+pub mod module;
+mod registers;
 pub mod rows;
 
 // Sixteen counts, the lower-half latch of each, the front veto line and the VME veto.
-#[derive(Clone, Copy)]
+#[derive(Clone, Copy, PartialEq, Eq, Debug)]
 pub struct Scales {
     pub counts: [u32; 16],
     pub latches: [u32; 16],
@@ -20,7 +25,7 @@ pub struct Scales {
 }
 
 // What a command address, a line or the button does, alike in both modules.
-#[derive(Clone, Copy)]
+#[derive(Clone, Copy, PartialEq, Eq, Debug)]
 pub enum Order {
     ClearAccess,
     VetoSet,
@@ -34,7 +39,7 @@ pub enum Order {
 }
 
 // The scales and the interrupter after an order.
-#[derive(Clone, Copy)]
+#[derive(Clone, Copy, PartialEq, Eq, Debug)]
 pub struct Obeyed {
     pub scales: Scales,
     pub interrupter: Interrupter,
@@ -42,7 +47,7 @@ pub struct Obeyed {
 
 // A call of either module: pulses (channel, how many), the front veto line, TEST, the CLEAR line, a trigger, for which
 // neither has an input, an access, and MAN CLR.
-#[derive(Clone, Copy)]
+#[derive(Clone, Copy, PartialEq, Eq, Debug)]
 pub enum Call {
     Pulses(u32, u32),
     VetoLine(bool),
@@ -70,10 +75,29 @@ impl Scales {
     pub fn is_inhibited(self) -> bool
         ensures { result ≡ inhibited self }
     {
-        if self.line {
-            return true;
-        }
-        self.vme
+        self.line || self.vme
+    }
+
+    // Zeroed.
+    fn zeroed(mut self) -> Self
+        ensures { result ≡ zeroed self }
+    {
+        self.counts = [0; 16];
+        self
+    }
+
+    // The VME veto set or reset.
+    fn vetoed(self, on: bool) -> Self
+        ensures { result ≡ vetoed on self }
+    {
+        Scales { vme: on, ..self }
+    }
+
+    // The front veto line on or off.
+    fn lined(self, on: bool) -> Self
+        ensures { result ≡ lined on self }
+    {
+        Scales { line: on, ..self }
     }
 }
 
@@ -83,40 +107,16 @@ pub fn obey(order: Order, scales: Scales, interrupter: Interrupter) -> Obeyed
 {
     let i = interrupter;
     match order {
-        Order::ClearAccess => both(zero(scales), i.cleared()),
-        Order::VetoSet => both(veto(scales, true), i),
-        Order::VetoReset => both(veto(scales, false), i),
+        Order::ClearAccess => both(scales.zeroed(), i.cleared()),
+        Order::VetoSet => both(scales.vetoed(true), i),
+        Order::VetoReset => both(scales.vetoed(false), i),
         Order::Enable => both(scales, i.generating(true)),
         Order::Disable => both(scales, i.generating(false)),
         Order::RemoveRequest => both(scales, i.released()),
-        Order::ClearLine => both(zero(scales), i),
-        Order::VetoLine(on) => both(front(scales, on), i),
-        Order::ManClr => both(veto(zero(scales), false), i.cleared()),
+        Order::ClearLine => both(scales.zeroed(), i),
+        Order::VetoLine(on) => both(scales.lined(on), i),
+        Order::ManClr => both(scales.zeroed().vetoed(false), i.cleared()),
     }
-}
-
-// The scales zeroed.
-fn zero(mut scales: Scales) -> Scales
-    ensures { result ≡ zeroed scales }
-{
-    scales.counts = [0; 16];
-    scales
-}
-
-// The VME veto set or reset.
-fn veto(mut scales: Scales, on: bool) -> Scales
-    ensures { result ≡ vetoed on scales }
-{
-    scales.vme = on;
-    scales
-}
-
-// The front veto line on or off.
-fn front(mut scales: Scales, on: bool) -> Scales
-    ensures { result ≡ lined on scales }
-{
-    scales.line = on;
-    scales
 }
 
 // Scales and interrupter, side by side.

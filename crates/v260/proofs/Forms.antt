@@ -24,14 +24,14 @@ use Rattle.scaler.specs.declared.Order.{Order}
 use Rattle.scaler.specs.declared.Order.TheVariants.{ClearAccess, VetoSet, VetoReset, Enable, Disable, RemoveRequest, ClearLine, VetoLine, ManClr}
 use Rattle.scaler.specs.Orders.{inhibited}
 use Rattle.scaler.specs.Clock.{count_one, clocked}
-use Rattle.scaler.specs.Module.{called_of}
 use Rattle.scaler.proofs.Formed.{Well, Reaching, Forming, formed_stays, formed_lasts, malformed_lasts}
 use Rattle.v260.specs.declared.Switches.{Switches}
 use Rattle.v260.specs.declared.V260.{V260}
-use Rattle.v260.specs.Outcomes.{refused, done, fits, is_formed, start_of}
-use Rattle.v260.specs.Counting.{after, is_joined, unjoined, pulsed, counted, tested}
-use Rattle.v260.specs.Registers.{registers, obey}
-use Rattle.v260.specs.Calls.{step_of}
+use Rattle.scaler.specs.Outcomes.{refused, done}
+use Rattle.v260.specs.Outcomes.{fits, is_formed, start_of}
+use Rattle.v260.specs.Counting.{after, is_joined, unjoined, pulsed}
+use Rattle.v260.specs.Registers.{registers}
+use Rattle.scaler.specs.Calls.{counted, tested, obey, step_of, called_of}
 use Rattle.v260.specs.Module.{v260}
 use Rattle.v260.proofs.Stepping.{inside}
 use Rattle.v260.proofs.Numbering.{answering}
@@ -42,7 +42,6 @@ next_fits : (x : ℕ) → ltb (next 24 x) (2 ^ 24) ≡ true
 next_fits x = lt-ltb (next 24 x) (2 ^ 24) (omega arith)
 
 set_fits : (counts : List ℕ) (k x : ℕ) → fits counts ≡ true → fits (set counts k (next 24 x)) ≡ true
-unfolding fits
 set_fits [] k x e = refl
 set_fits (c ∷ cs) zero x e = rw (next_fits x) (right_of (ltb c (2 ^ 24)) (fits cs) e)
 set_fits (c ∷ cs) (suc k) x e =
@@ -58,7 +57,6 @@ clocked_fits joins after (suc n) k counts e =
     (clocked_fits joins after n (after k) (count_one 24 k counts) one) one
 
 map_fits : (counts : List ℕ) → fits (map (next 24) counts) ≡ true
-unfolding fits
 map_fits [] = refl
 map_fits (c ∷ cs) = rw (next_fits c) (map_fits cs)
 
@@ -70,17 +68,16 @@ module _ (s : V260) (i : Interrupter) (f : is_formed s i ≡ true) where
 
   -- scales that are zeroed
   zeroed_well : well_formed i && fits (replicate 16 0) ≡ true
-  unfolding fits
   zeroed_well = with_counts (replicate 16 0) refl
 
-  tested_well : Well inside (tested s i)
+  tested_well : Well inside (tested v260 s i)
   tested_well =
       either_way (Well inside) (unjoined s) _ (refused NoMeaning s i)
-      (either_way (Well inside) (inhibited s.scales) (done 0 s i) (counted (map (next 24) s.scales.counts) s i) f
+      (either_way (Well inside) (inhibited s.scales) (done 0 s i) (counted v260 (map (next 24) s.scales.counts) s i) f
       (with_counts (map (next 24) s.scales.counts) (map_fits s.scales.counts)))
       f
 
-  ordered_well : (o : Order) → Well inside (obey o s i)
+  ordered_well : (o : Order) → Well inside (obey v260 o s i)
   ordered_well ClearAccess = zeroed_well
   ordered_well VetoSet = f
   ordered_well VetoReset = f
@@ -121,7 +118,7 @@ forming =
 
 -- ---- the theorems
 -- a state and an interrupter that are well formed, and so do not get 12, are so after every call
-pub v260_formed_stays : (s : V260) (i : Interrupter) (c : Call) → is_formed s i ≡ true → is_formed (step_of s i c).state (step_of s i c).interrupter ≡ true
+pub v260_formed_stays : (s : V260) (i : Interrupter) (c : Call) → is_formed s i ≡ true → is_formed (step_of v260 s i c).state (step_of v260 s i c).interrupter ≡ true
 v260_formed_stays s i c f = formed_stays inside forming s i f c
 
 -- and after every list of calls
@@ -140,8 +137,8 @@ v260_start_number switches level = go (dec_lt 7 level)
 -- "A refused start returns the power-on record .. which gets 12 from then on": each call, after any list of calls,
 -- gets it and leaves that record
 pub refused_start : (switches : Switches) (level : ℕ) (calls : List Call) (c : Call) → 7 < level
-    → (number_of (step_of (called_of v260 calls (start_of switches level)).state (called_of v260 calls (start_of switches level)).interrupter c).answer ≡ 12)
-    × ((step_of (called_of v260 calls (start_of switches level)).state (called_of v260 calls (start_of switches level)).interrupter c).state ≡ (start_of switches level).state)
-    × ((step_of (called_of v260 calls (start_of switches level)).state (called_of v260 calls (start_of switches level)).interrupter c).interrupter ≡ (start_of switches level).interrupter)
+    → (number_of (step_of v260 (called_of v260 calls (start_of switches level)).state (called_of v260 calls (start_of switches level)).interrupter c).answer ≡ 12)
+    × ((step_of v260 (called_of v260 calls (start_of switches level)).state (called_of v260 calls (start_of switches level)).interrupter c).state ≡ (start_of switches level).state)
+    × ((step_of v260 (called_of v260 calls (start_of switches level)).state (called_of v260 calls (start_of switches level)).interrupter c).interrupter ≡ (start_of switches level).interrupter)
 refused_start switches level calls c h =
     malformed_lasts inside answering calls (start_of switches level) c (rw (lt-leb level 7 h))

@@ -25,18 +25,18 @@ use Rattle.scaler.specs.declared.Call.TheVariants as call
 use Rattle.scaler.specs.Orders.{inhibited}
 use Rattle.scaler.specs.Admitted.{reaches, clears, no_clear, admitted_to}
 use Rattle.scaler.specs.Rows.{clear_access}
-use Rattle.scaler.specs.Module.{called_of}
 use Rattle.scaler.specs.Held.{counts_of, held}
 use Rattle.scaler.proofs.Fair.{Quiet, Does, increases, clearing, stays, Deed, idle, scale_holds}
 use Rattle.scaler.proofs.Runs.{or_true, length_path}
 use Rattle.v260.specs.declared.Switches.{Switches}
 use Rattle.v260.specs.declared.V260.{V260}
-use Rattle.v260.specs.declared.Outcome.{Outcome}
-use Rattle.v260.specs.Outcomes.{refused, done, unless, is_formed}
-use Rattle.v260.specs.Counting.{after, is_joined, pulse, tested}
-use Rattle.v260.specs.Registers.{registers, performed}
-use Rattle.v260.specs.Calls.{step_of}
+use Rattle.scaler.specs.declared.module.Outcome.{Outcome}
+use Rattle.scaler.specs.Outcomes.{refused, done, unless}
+use Rattle.v260.specs.Outcomes.{is_formed}
+use Rattle.v260.specs.Counting.{after, is_joined}
+use Rattle.v260.specs.Registers.{registers}
 use Rattle.v260.specs.Joined.{Joined, channels, AllJoined}
+use Rattle.scaler.specs.Calls.{pulse, tested, performed, step_of, called_of}
 use Rattle.v260.specs.Module.{v260}
 use Rattle.v260.proofs.Stepping.{inside, row_does, Fit, scale, own}
 
@@ -53,12 +53,12 @@ v260_scale_holds f k calls s i j l z e =
 
 -- ---- all sixteen joined
 module _ (s : V260) (i : Interrupter) (j : AllJoined s) where
-  quiet_unless : (why : Refusal) (b : Bool) (o : Outcome) → (b ≡ true → Quiet inside s o) → Quiet inside s (unless b why s i o)
+  quiet_unless : (why : Refusal) (b : Bool) (o : Outcome V260) → (b ≡ true → Quiet inside s o) → Quiet inside s (unless b why s i o)
   quiet_unless why true o h = h refl
   quiet_unless why false o h = (refl, refl)
 
   -- TEST is refused
-  quiet_tested : Quiet inside s (tested s i)
+  quiet_tested : Quiet inside s (tested v260 s i)
   quiet_tested = quiet_unless NoMeaning (eqb s.switches.joined 0) _ (λ e. absurd (none (eqb-true s.switches.joined 0 e)))
     where
       none : s.switches.joined ≡ 0 → ⊥
@@ -67,20 +67,20 @@ module _ (s : V260) (i : Interrupter) (j : AllJoined s) where
           omega (arith, sym (no_bit 0 0 0 (omega arith) (omega arith)) ∙ b)
 
   -- no input does anything
-  quiet_pulses : (x n : ℕ) → x < 16 → Quiet inside s (iterate n (pulse x) (done 0 s i))
+  quiet_pulses : (x n : ℕ) → x < 16 → Quiet inside s (iterate n (pulse v260 x) (done 0 s i))
   quiet_pulses x n h =
       subst (Quiet inside s) (sym (idle inside x n (done 0 s i) (or_true (inhibited s.scales) (is_joined s.switches x) (j x h)))) (refl, refl)
 
-  quiet_does : {b c : Bool} {o : Outcome} → Does inside s i b c o → c ≡ false → Quiet inside s o
+  quiet_does : {b c : Bool} {o : Outcome V260} → Does inside s i b c o → c ≡ false → Quiet inside s o
   quiet_does increases e = quiet_tested
   quiet_does (clearing o d) e = absurd (false≢true (sym e))
   quiet_does (stays v o d q) e = q
 
-  quiet_reached : (to : Result Reached Refusal) (a : Access) → Deed inside s i a to → reaches clear_access to ≡ false → Quiet inside s (by_table (λ why. refused why s i) (λ at place. performed at place s i a) to)
+  quiet_reached : (to : Result Reached Refusal) (a : Access) → Deed inside s i a to → reaches clear_access to ≡ false → Quiet inside s (by_table (λ why. refused why s i) (λ at place. performed v260 at place s i a) to)
   quiet_reached (Err why) a d e = (refl, refl)
   quiet_reached (Ok to) a d e = quiet_does d e
 
-  quiet_step : (c : Call) → clears registers c ≡ false → Quiet inside s (step_of s i c)
+  quiet_step : (c : Call) → clears registers c ≡ false → Quiet inside s (step_of v260 s i c)
   quiet_step (call.Pulses x n) e =
       quiet_unless Malformed (is_formed s i) _ (λ _. quiet_unless NoChannel (ltb x 16) _ (λ h. quiet_pulses x n (ltb-true x 16 h)))
   quiet_step (call.VetoLine on) e = quiet_unless Malformed (is_formed s i) _ (λ _. (refl, refl))
@@ -91,10 +91,10 @@ module _ (s : V260) (i : Interrupter) (j : AllJoined s) where
   quiet_step call.ManClr e = absurd (false≢true (sym e))
 
 -- T4: nothing counts, whatever is called that does not clear
-pub nothing_counts : (calls : List Call) (o : Outcome) → AllJoined o.state → no_clear registers calls ≡ true
+pub nothing_counts : (calls : List Call) (o : Outcome V260) → AllJoined o.state → no_clear registers calls ≡ true
     → (called_of v260 calls o).state.scales.counts ≡ o.state.scales.counts
 nothing_counts [] o j e = refl
 nothing_counts (c ∷ cs) o j e =
     let q = quiet_step o.state o.interrupter j c (not-true (clears registers c) (left_of (not (clears registers c)) (no_clear registers cs) e)) in
-    let t = step_of o.state o.interrupter c in
+    let t = step_of v260 o.state o.interrupter c in
     nothing_counts cs t (λ x h. ap (λ (w : Switches). is_joined w x) q.0 ∙ j x h) (right_of (not (clears registers c)) (no_clear registers cs) e) ∙ q.1

@@ -21,41 +21,18 @@ use Rattle.scaler.specs.Held.{path}
 use Rattle.scaler.proofs.Runs.{run_ticks, others_stay, length_clocked, single_ticks}
 use Rattle.v260.specs.declared.Switches.{Switches}
 use Rattle.v260.specs.declared.V260.{V260}
-use Rattle.v260.specs.declared.Outcome.{Outcome}
-use Rattle.v260.specs.Outcomes.{refused, done}
-use Rattle.v260.specs.Counting.{after, is_joined, pulsed, counted, pulse, tested}
-use Rattle.v260.specs.Registers.{registers, obey, performed}
+use Rattle.scaler.specs.declared.module.Outcome.{Outcome}
+use Rattle.scaler.specs.Outcomes.{refused, done}
+use Rattle.v260.specs.Counting.{after, is_joined}
+use Rattle.v260.specs.Registers.{registers}
+use Rattle.scaler.specs.Calls.{counted, tested}
 use Rattle.v260.specs.Module.{v260}
 use Rattle.v260.specs.Joined.{Joined, channels}
 use Rattle.v260.proofs.Channels.{scale_run, scale_shut, scale_other}
 
 -- what is inside it
 abbrev pub inside : Inside v260 Switches
-inside =
-    record {
-      joins = λ s. s.switches;
-      pulse = pulse;
-      ignores = λ s x. is_joined s.switches x;
-      clocks = λ s x. pulsed s.switches s.scales.counts x;
-      counted = λ l o. counted l o.state o.interrupter;
-      pulse_is = λ x o. refl;
-      counted_answer = λ l o. refl;
-      counted_scales = λ l o. refl;
-      counted_ignores = λ l o x. refl;
-      refused = refused;
-      done = done 0;
-      tested = tested;
-      ordered = obey;
-      performed = performed;
-      refused_is = λ why s i. (refl, refl, refl);
-      done_is = λ s i. (refl, refl, refl);
-      pulses_are = λ s i x n. refl;
-      line_is = λ s i on. refl;
-      test_is = λ s i. refl;
-      order_is = λ s i. (refl, refl);
-      trigger_is = λ s i. refl;
-      access_is = λ s i a. refl;
-    }
+inside = record { joins = λ s. s.switches; scales_scaled = λ c s. refl; ignores_scaled = λ c s x. refl }
 
 -- what each row of its table does
 pub row_does : (s : V260) (i : Interrupter) (a : Access) → Deed inside s i a (look_up 0 registers a)
@@ -92,7 +69,7 @@ module _ (f k : ℕ) where
       }
 
   module _ (s : V260) (i : Interrupter) (g : Fit f k s) where
-    abbrev Fairly : ℕ → Outcome → Type 0
+    abbrev Fairly : ℕ → Outcome V260 → Type 0
     Fairly p o = Fair inside 24 (channels f k) f (Fit f k) p s o
 
     -- without a joined channel the scale is a single one
@@ -105,7 +82,7 @@ module _ (f k : ℕ) where
         absurd (omega (arith, sym z ∙ b))
 
     -- TEST: nothing joined and not inhibited, each channel, and so the scale of one, counts one
-    fair_each : s.switches.joined ≡ 0 → inhibited s.scales ≡ false → Fairly 1 (counted (map (next 24) s.scales.counts) s i)
+    fair_each : s.switches.joined ≡ 0 → inhibited s.scales ≡ false → Fairly 1 (counted v260 (map (next 24) s.scales.counts) s i)
     unfolding path iterate
     fair_each e h =
         let z = single k g.joined e in
@@ -113,7 +90,7 @@ module _ (f k : ℕ) where
         let n = length-map s.scales.counts (next 24) in
         (record { joined = g.joined; size = n ∙ g.size }, rw h (record { size = n; ticks = rw z (single_ticks 24 f s.scales.counts l) }))
 
-    fair_tested : Fairly 1 (tested s i)
+    fair_tested : Fairly 1 (tested v260 s i)
     fair_tested =
         by_test (Fairly 1) (eqb s.switches.joined 0) _ (refused NoMeaning s i)
         (λ e. by_test (Fairly 1) (inhibited s.scales) (done 0 s i) _

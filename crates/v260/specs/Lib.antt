@@ -1,6 +1,5 @@
 pub mod Outcomes
 pub mod Counting
 pub mod Registers
-pub mod Calls
 pub mod Joined
 pub mod Module

@@ -1,18 +1,26 @@
 #![tactic(auto)]
 
 // The V260: sixteen scales of 24 bits, each of which may be joined to the one before it.
-ghost use Rattle.std.specs.Prelude.{◌≡◌};
-ghost use Rattle.v260.specs.Outcomes.{fits, is_formed, refused, done, start_of};
+ghost use Rattle.std.specs.Prelude.{◌≡◌, refl};
+ghost use Rattle.v260.specs.Outcomes.{fits, start_of};
+ghost use Rattle.v260.specs.Module.{v260};
 
 use bus::interrupter::Interrupter;
-use bus::table::{Directions, Row, Widths};
-use bus::{Answer, Refusal};
+use bus::table::{Directions, Reached, Row, Widths};
+use bus::{Access, Refusal};
+use count::Width;
 use scaler::Scales;
+use scaler::module::Scaler;
+pub use scaler::{by_value, in_place};
 
-pub mod by_value;
 mod counting;
-pub mod in_place;
 mod registers;
+
+// What a call gives: the answer, the module and the interrupter after it.
+pub type Outcome = scaler::module::Outcome<V260>;
+
+// What a call gives that was lent the interrupter: the answer and the module after it.
+pub type Lent = scaler::module::Lent<V260>;
 
 // The row that the table has no register for: no offset lies in it.
 const UNUSED: Row = Row(1, 0, Widths::D16, Directions::Read);
@@ -36,7 +44,7 @@ const TABLE: [Row; 13] = [
 
 // The switches: the channels that are joined to the one before, those that may request, and whether the jumpers JP18
 // (channels 0 to 7) and JP17 (8 to 15) are inserted.
-#[derive(Clone, Copy)]
+#[derive(Clone, Copy, PartialEq, Eq, Debug)]
 pub struct Switches {
     pub joined: u16,
     pub interrupts: u16,
@@ -45,25 +53,56 @@ pub struct Switches {
 }
 
 // The scales and the switches.
-#[derive(Clone, Copy)]
+#[derive(Clone, Copy, PartialEq, Eq, Debug)]
 pub struct V260 {
     pub scales: Scales,
     pub switches: Switches,
 }
 
-// What a call gives: the answer, the module and the interrupter after it.
-#[derive(Clone, Copy)]
-pub struct Outcome {
-    pub answer: Answer,
-    pub state: V260,
-    pub interrupter: Interrupter,
-}
+impl Scaler for V260 {
+    ghost own = { v260 };
 
-// What a call gives that was lent the interrupter: the answer and the module after it.
-#[derive(Clone, Copy)]
-pub struct Lent {
-    pub answer: Answer,
-    pub state: V260,
+    fn scales(self) -> Scales {
+        self.scales
+    }
+
+    fn scaled(self, scales: Scales) -> Self {
+        V260 { scales, ..self }
+    }
+
+    fn table() -> &'static [Row] {
+        &TABLE
+    }
+
+    fn register(self, i: Interrupter, to: Reached, a: Access) -> Outcome {
+        registers::perform(to, self, i, a)
+    }
+
+    fn is_formed(self, i: Interrupter) -> bool {
+        i.is_well_formed() && counts_fit(self.scales.counts)
+    }
+
+    fn is_unjoined(self) -> bool {
+        self.switches.joined == 0
+    }
+
+    fn width() -> Width {
+        Width::Bits24
+    }
+
+    fn is_ignored(self, channel: usize) -> bool {
+        counting::is_joined(self.switches, channel)
+    }
+
+    fn counts_after(self, channel: usize) -> [u32; 16] {
+        counting::counts_after(self.switches, self.scales.counts, channel)
+    }
+
+    fn watched(self, channel: usize) -> Option<u32> {
+        counting::watched(self.switches, channel)
+    }
+
+    ghost sixteen_places = { refl };
 }
 
 // A module that is switched on, with its switches and the level of its dip switches.
@@ -75,55 +114,14 @@ pub fn start(switches: Switches, level: u32) -> Outcome
         switches,
     };
     if level > 7 {
-        return refused(Refusal::Malformed, state, Interrupter::power_on(8));
+        return Outcome::refused(Refusal::Malformed, state, Interrupter::power_on(8));
     }
-    done(0, state, Interrupter::power_on(level))
+    Outcome::done(0, state, Interrupter::power_on(level))
 }
 
 // Whether every count is within its 24 bits.
 fn counts_fit(counts: [u32; 16]) -> bool
     ensures { result ≡ fits counts }
 {
-    let mut k: usize = 0;
-    while k < 16 {
-        if counts[k] > 16777215 {
-            return false;
-        }
-        k += 1;
-    }
-    true
-}
-
-// Whether the module and the interrupter are well formed.
-fn is_formed(s: V260, i: Interrupter) -> bool
-    ensures { result ≡ is_formed s i }
-{
-    if !i.is_well_formed() {
-        return false;
-    }
-    let scales = s.scales;
-    let counts = scales.counts;
-    counts_fit(counts)
-}
-
-// A call that is refused: all stays as it was.
-fn refused(why: Refusal, state: V260, interrupter: Interrupter) -> Outcome
-    ensures { result ≡ refused why state interrupter }
-{
-    Outcome {
-        answer: Err(why),
-        state,
-        interrupter,
-    }
-}
-
-// A call that is done, with the value read.
-fn done(value: u32, state: V260, interrupter: Interrupter) -> Outcome
-    ensures { result ≡ done value state interrupter }
-{
-    Outcome {
-        answer: Ok(value),
-        state,
-        interrupter,
-    }
+    counts.iter().all(|count| *count < 0x0100_0000)
 }

@@ -18,22 +18,21 @@ use Rattle.scaler.specs.declared.Call.{Call}
 use Rattle.scaler.specs.declared.Order.{Order}
 use Rattle.scaler.specs.declared.Order.TheVariants.{ClearAccess, VetoSet, VetoReset, Enable, Disable, RemoveRequest, ClearLine, VetoLine, ManClr}
 use Rattle.scaler.specs.Orders.{inhibited}
-use Rattle.scaler.specs.Module.{called_of}
 use Rattle.scaler.proofs.Formed.{Well, Reaching, Forming, formed_stays, formed_lasts}
 use Rattle.v560.specs.declared.V560.{V560}
-use Rattle.v560.specs.Outcomes.{refused, done}
-use Rattle.v560.specs.Counting.{unjoined, tested}
-use Rattle.v560.specs.Registers.{registers, obey, request_for, level_for, vector_for}
-use Rattle.v560.specs.Calls.{step_of}
+use Rattle.scaler.specs.Outcomes.{refused, done}
+use Rattle.v560.specs.Counting.{unjoined}
+use Rattle.v560.specs.Registers.{registers, request_for, level_for, vector_for}
+use Rattle.scaler.specs.Calls.{tested, obey, step_of, called_of}
 use Rattle.v560.specs.Module.{v560}
 use Rattle.v560.proofs.Stepping.{inside}
 
 module _ (s : V560) (i : Interrupter) (f : well_formed i ≡ true) where
-  tested_well : Well inside (tested s i)
+  tested_well : Well inside (tested v560 s i)
   tested_well =
       either_way (Well inside) (unjoined s) _ (refused NoMeaning s i) (either_way (Well inside) (inhibited s.scales) (done 0 s i) _ f f) f
 
-  ordered_well : (o : Order) → Well inside (obey o s i)
+  ordered_well : (o : Order) → Well inside (obey v560 o s i)
   ordered_well ClearAccess = f
   ordered_well VetoSet = f
   ordered_well VetoReset = f
@@ -77,7 +76,7 @@ forming =
     }
 
 -- an interrupter that is well formed, so that no call gets 12, is so after every call
-pub v560_formed_stays : (s : V560) (i : Interrupter) (c : Call) → well_formed i ≡ true → well_formed (step_of s i c).interrupter ≡ true
+pub v560_formed_stays : (s : V560) (i : Interrupter) (c : Call) → well_formed i ≡ true → well_formed (step_of v560 s i c).interrupter ≡ true
 v560_formed_stays s i c f = formed_stays inside forming s i f c
 
 -- and after every list of calls

@@ -14,13 +14,13 @@ use Rattle.count.specs.Chain.{chain_value}
 use Rattle.bus.specs.declared.interrupter.Interrupter.{Interrupter}
 use Rattle.scaler.specs.declared.Call.{Call}
 use Rattle.scaler.specs.Admitted.{no_clear, admitted_to}
-use Rattle.scaler.specs.Module.{called_of}
 use Rattle.scaler.specs.Held.{counts_of, held}
 use Rattle.scaler.proofs.Fair.{scale_holds}
 use Rattle.v560.specs.declared.V560.{V560}
-use Rattle.v560.specs.Outcomes.{done}
+use Rattle.scaler.specs.Outcomes.{done}
 use Rattle.v560.specs.Counting.{is_joined, section}
 use Rattle.v560.specs.Registers.{registers}
+use Rattle.scaler.specs.Calls.{called_of}
 use Rattle.v560.specs.Module.{v560}
 use Rattle.v560.proofs.Stepping.{inside, Fit, scale, own}
 use Rattle.v560.proofs.Single as single

@@ -18,10 +18,12 @@ use Rattle.scaler.specs.Orders.{inhibited}
 use Rattle.scaler.specs.Held.{path, counts_of}
 use Rattle.scaler.proofs.Fair.{Scale, Fair, fair_refused, fair_inhibited, Own}
 use Rattle.scaler.proofs.Runs.{among, Run, run_ticks, others_stay, length_clocked, single_ticks}
+use Rattle.scaler.specs.Calls.{counted, tested}
 use Rattle.v560.specs.declared.V560.{V560}
-use Rattle.v560.specs.declared.Outcome.{Outcome}
-use Rattle.v560.specs.Outcomes.{refused, done}
-use Rattle.v560.specs.Counting.{is_joined, is_low, unjoined, pulsed, counted, tested}
+use Rattle.v560.specs.Module.{v560}
+use Rattle.scaler.specs.declared.module.Outcome.{Outcome}
+use Rattle.scaler.specs.Outcomes.{refused, done}
+use Rattle.v560.specs.Counting.{is_joined, is_low, unjoined, pulsed}
 use Rattle.v560.proofs.Stepping.{inside, row_does}
 
 -- a module with sixteen counts in which the section of channel k is not joined
@@ -67,18 +69,18 @@ module _ (k : ℕ) where
       }
 
   module _ (s : V560) (i : Interrupter) (g : Fit k s) where
-    abbrev Fairly : ℕ → Outcome → Type 0
+    abbrev Fairly : ℕ → Outcome V560 → Type 0
     Fairly p o = Fair inside 32 (k ∷ []) k (Fit k) p s o
 
     -- TEST: nothing joined and not inhibited, each channel, and so this one, counts one
-    fair_each : inhibited s.scales ≡ false → Fairly 1 (counted (map (next 32) s.scales.counts) s i)
+    fair_each : inhibited s.scales ≡ false → Fairly 1 (counted v560 (map (next 32) s.scales.counts) s i)
     unfolding iterate
     fair_each h =
         let l : k < length s.scales.counts = rw g.size g.among_sixteen in
         let n = length-map s.scales.counts (next 32) in
         (record { among_sixteen = g.among_sixteen; single = g.single; size = n ∙ g.size }, rw h (record { size = n; ticks = single_ticks 32 k s.scales.counts l }))
 
-    fair_tested : Fairly 1 (tested s i)
+    fair_tested : Fairly 1 (tested v560 s i)
     fair_tested =
         by_test (Fairly 1) (unjoined s) _ (refused NoMeaning s i)
         (λ _. by_test (Fairly 1) (inhibited s.scales) (done 0 s i) _ (λ h. fair_inhibited inside 32 (k ∷ []) k (Fit k) 1 s (done 0 s i) g refl h) fair_each)

@@ -21,38 +21,15 @@ use Rattle.scaler.proofs.Fair.{Inside, Does, increases, clearing, stays, Deed, S
 use Rattle.scaler.specs.Held.{path, counts_of}
 use Rattle.scaler.proofs.Runs.{among, apart, Run, run_ticks, others_stay, length_clocked}
 use Rattle.v560.specs.declared.V560.{V560}
-use Rattle.v560.specs.Outcomes.{refused, done}
-use Rattle.v560.specs.Counting.{is_joined, section, is_low, is_high, pulsed, counted, pulse, tested}
-use Rattle.v560.specs.Registers.{registers, obey, request_for, level_for, vector_for, performed}
+use Rattle.scaler.specs.Outcomes.{refused}
+use Rattle.v560.specs.Counting.{is_joined, section, is_low, is_high, pulsed}
+use Rattle.v560.specs.Registers.{registers, request_for, level_for, vector_for}
+use Rattle.scaler.specs.Calls.{tested}
 use Rattle.v560.specs.Module.{v560}
 
 -- what is inside it
 abbrev pub inside : Inside v560 ℕ
-inside =
-    record {
-      joins = λ s. s.joined;
-      pulse = pulse;
-      ignores = λ s x. is_high s.joined x;
-      clocks = λ s x. pulsed s.joined s.scales.counts x;
-      counted = λ l o. counted l o.state o.interrupter;
-      pulse_is = λ x o. refl;
-      counted_answer = λ l o. refl;
-      counted_scales = λ l o. refl;
-      counted_ignores = λ l o x. refl;
-      refused = refused;
-      done = done 0;
-      tested = tested;
-      ordered = obey;
-      performed = performed;
-      refused_is = λ why s i. (refl, refl, refl);
-      done_is = λ s i. (refl, refl, refl);
-      pulses_are = λ s i x n. refl;
-      line_is = λ s i on. refl;
-      test_is = λ s i. refl;
-      order_is = λ s i. (refl, refl);
-      trigger_is = λ s i. refl;
-      access_is = λ s i a. refl;
-    }
+inside = record { joins = λ s. s.joined; scales_scaled = λ c s. refl; ignores_scaled = λ c s x. refl }
 
 -- a register that is read or written
 register_does : (s : V560) (i : Interrupter) (word : ℕ) (b : Bool)
@@ -146,7 +123,7 @@ module _ (n : ℕ) where
         omega (arith, sym (no_bit 0 n 0 (omega arith) (omega arith)) ∙ b)
 
     -- TEST is refused
-    fair_tested : Fair inside 32 (section n) (2 * n + 1) (Fit n) 1 s (tested s i)
+    fair_tested : Fair inside 32 (section n) (2 * n + 1) (Fit n) 1 s (tested v560 s i)
     fair_tested =
         rw (ne_eqb s.joined 0 not_none) (fair_refused inside 32 (section n) (2 * n + 1) (Fit n) 1 s (refused NoMeaning s i) g refl refl)
 

@@ -1,5 +1,4 @@
 pub mod Outcomes
 pub mod Counting
 pub mod Registers
-pub mod Calls
 pub mod Module

@@ -1,30 +1,24 @@
--- The V560 as a module of sixteen scales, seen from outside. Assumes nothing.
-use Rattle.bus.specs.declared.interrupter.Interrupter.{Interrupter}
-use Rattle.scaler.specs.declared.Call.{Call}
-use Rattle.scaler.specs.Module.{Module}
-use Rattle.scaler.specs.Refusals.{LentAnswered}
+-- The V560 as a module of sixteen scales. Assumes nothing.
+use Rattle.count.specs.declared.Width.TheVariants.{Bits32}
 use Rattle.bus.specs.Interrupting.{well_formed}
+use Rattle.scaler.specs.Module.{Module}
 use Rattle.v560.specs.declared.V560.{V560}
-use Rattle.v560.specs.declared.Outcome.{Outcome}
-use Rattle.v560.specs.declared.Lent.{Lent}
-use Rattle.v560.specs.Counting.{unjoined}
-use Rattle.v560.specs.Registers.{registers}
-use Rattle.v560.specs.Calls.{step_of}
+use Rattle.v560.specs.Outcomes.{scaled}
+use Rattle.v560.specs.Counting.{unjoined, is_high, pulsed, watched}
+use Rattle.v560.specs.Registers.{registers, register}
 
-abbrev pub v560 : Module V560 Outcome
+abbrev pub v560 : Module V560
 v560 =
     record {
-      answer = λ o. o.answer;
-      state = λ o. o.state;
-      interrupter = λ o. o.interrupter;
       scales = λ s. s.scales;
+      scaled = scaled;
       registers = registers;
-      step = step_of;
+      register = register;
+      -- of 12 only "level above 7" can be had: a count of 32 bits is never above its width
       formed = λ s i. well_formed i;
       unjoined = unjoined;
+      width = Bits32;
+      ignores = λ s k. is_high s.joined k;
+      pulsed = λ s k. pulsed s.joined s.scales.counts k;
+      watched = watched;
     }
-
--- of a call on state s that was lent the interrupter i, handed back l and left j: its number, and what a refusal
--- leaves
-abbrev pub Answered : V560 → Interrupter → Call → Lent → Interrupter → Type 0
-Answered s i c l j = LentAnswered v560 (λ (l : Lent). l.answer) (λ (l : Lent). l.state) s i c l j

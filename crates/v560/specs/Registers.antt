@@ -8,16 +8,14 @@ use Rattle.bus.specs.declared.table.Widths.TheVariants.{D16, D16D32}
 use Rattle.bus.specs.declared.table.Directions.TheVariants.{Read, ReadWrite}
 use Rattle.bus.specs.declared.table.Row.{Row}
 use Rattle.bus.specs.Interrupting.{levelled, vectored}
-use Rattle.bus.specs.Table.{row, look_up, by_table}
-use Rattle.scaler.specs.declared.Order.{Order}
-use Rattle.scaler.specs.declared.Order.TheVariants.{ClearAccess, VetoSet, VetoReset, Enable, Disable, RemoveRequest}
+use Rattle.bus.specs.Table.{row}
 use Rattle.scaler.specs.declared.Scales.{Scales}
-use Rattle.scaler.specs.Orders.{inhibited, obeyed}
-use Rattle.scaler.specs.Rows.{status, scale_increase, veto_reset, veto_set, clear_access, scale_counters, lower_halves, request_register, clear_interrupt, disable_interrupt, enable_interrupt, level_register, vector_register}
+use Rattle.scaler.specs.declared.module.Outcome.{Outcome}
+use Rattle.scaler.specs.Orders.{inhibited}
+use Rattle.scaler.specs.Outcomes.{refused, done}
+use Rattle.scaler.specs.Rows.{status, scale_counters, request_register, level_register, vector_register}
 use Rattle.v560.specs.declared.V560.{V560}
-use Rattle.v560.specs.declared.Outcome.{Outcome}
-use Rattle.v560.specs.Outcomes.{refused, done, formed, scaled}
-use Rattle.v560.specs.Counting.{tested}
+use Rattle.v560.specs.Outcomes.{scaled}
 
 -- table 4.1, from the top: first and last offset, of which every fourth is meant, widths, directions.
 -- "A counter's entry covers its offset (V260 and V560: 16 or 32 bits) and, there, offset + 2 (16 only)".
@@ -42,10 +40,6 @@ registers =
 abbrev pub ones : ℕ
 ones = 0xFF00
 
--- what a command address, a line or the button does; "such a read returns 0"
-abbrev pub obey : Order → V560 → Interrupter → Outcome
-obey order s i = done 0 (scaled (obeyed order s.scales i).scales s) (obeyed order s.scales i).interrupter
-
 -- the veto latch: 1, "the module was able to count when the channel has been read" (4.8)
 abbrev pub veto_latched : V560 → V560
 veto_latched s = record { scales = s.scales; joined = s.joined; sections = s.sections; latch = not (inhibited s.scales) }
@@ -55,18 +49,14 @@ abbrev pub latched : ℕ → Scales → Scales
 latched k c = record { counts = c.counts; latches = set c.latches k (get_or c.counts k 0); line = c.line; vme = c.vme }
 
 -- a counter read: 32 bits, or the upper half, which latches the word; both latch the veto
-abbrev pub counter_at : ℕ → V560 → Interrupter → ℕ → Outcome
+abbrev pub counter_at : ℕ → V560 → Interrupter → ℕ → Outcome V560
 counter_at k s i width =
     cond (eqb width 32)
     (done (get_or s.scales.counts k 0) (veto_latched s) i)
     (done (get_or s.scales.counts k 0 / 0x10000) (scaled (latched k s.scales) (veto_latched s)) i)
 
--- "offset + 2 gives that latch's lower half, 0 if never latched"
-abbrev pub lower_at : ℕ → V560 → Interrupter → Outcome
-lower_at k s i = done (get_or s.scales.latches k 0 % 0x10000) s i
-
 -- the request register (4.9): eight bits
-abbrev pub request_for : Bool → V560 → Interrupter → ℕ → Outcome
+abbrev pub request_for : Bool → V560 → Interrupter → ℕ → Outcome V560
 request_for false s i word = done (ones + s.sections) s i
 request_for true s i word = done 0 (record { scales = s.scales; joined = s.joined; sections = word % 0x100; latch = s.latch }) i
 
@@ -74,33 +64,21 @@ request_for true s i word = done 0 (record { scales = s.scales; joined = s.joine
 abbrev pub level_word : Bool → ℕ → ℕ
 level_word latch level = ones + cond latch 0x80 0 + 0x78 + level
 
-abbrev pub level_for : Bool → V560 → Interrupter → ℕ → Outcome
+abbrev pub level_for : Bool → V560 → Interrupter → ℕ → Outcome V560
 level_for false s i word = done (level_word s.latch i.level) s i
 level_for true s i word = done 0 s (levelled (word % 8) i)
 
 -- the vector register (4.13): eight bits
-abbrev pub vector_for : Bool → V560 → Interrupter → ℕ → Outcome
+abbrev pub vector_for : Bool → V560 → Interrupter → ℕ → Outcome V560
 vector_for false s i word = done (ones + i.vector) s i
 vector_for true s i word = done 0 s (vectored (word % 0x100) i)
 
--- what an access does at a row of the table and a place in it; 1: there is no other row
-abbrev pub performed : ℕ → ℕ → V560 → Interrupter → Access → Outcome
-performed at place s i a =
+-- what an access does at a row that the V260 has otherwise and a place in it; 1: there is no other row
+abbrev pub register : ℕ → ℕ → V560 → Interrupter → Access → Outcome V560
+register at place s i a =
     cond (eqb at status) (done (ones + s.joined) s i)
-    (cond (eqb at scale_increase) (tested s i)
-    (cond (eqb at veto_reset) (obey VetoReset s i)
-    (cond (eqb at veto_set) (obey VetoSet s i)
-    (cond (eqb at clear_access) (obey ClearAccess s i)
     (cond (eqb at scale_counters) (counter_at place s i a.width)
-    (cond (eqb at lower_halves) (lower_at place s i)
     (cond (eqb at request_register) (request_for a.write s i a.«data»)
-    (cond (eqb at clear_interrupt) (obey RemoveRequest s i)
-    (cond (eqb at disable_interrupt) (obey Disable s i)
-    (cond (eqb at enable_interrupt) (obey Enable s i)
     (cond (eqb at level_register) (level_for a.write s i a.«data»)
     (cond (eqb at vector_register) (vector_for a.write s i a.«data»)
-    (refused NotInTable s i)))))))))))))
-
--- 12, then 1, 2 and 3 by the table, then 4 (Scale Increase) and the deed
-abbrev pub access_of : V560 → Interrupter → Access → Outcome
-access_of s i a = formed s i (by_table (λ why. refused why s i) (λ at place. performed at place s i a) (look_up 0 registers a))
+    (refused NotInTable s i)))))

@@ -1,18 +1,26 @@
 #![tactic(auto)]
 
 // The V560: sixteen scales of 32 bits, in eight sections of two that may be joined to one scale of 64 bits.
-ghost use Rattle.std.specs.Prelude.{◌≡◌};
-ghost use Rattle.v560.specs.Outcomes.{refused, done, started};
+ghost use Rattle.std.specs.Prelude.{◌≡◌, refl};
+ghost use Rattle.v560.specs.Outcomes.{started};
+ghost use Rattle.v560.specs.Module.{v560};
 
+use bus::Access;
 use bus::interrupter::Interrupter;
-use bus::table::{Directions, Row, Widths};
-use bus::{Answer, Refusal};
+use bus::table::{Directions, Reached, Row, Widths};
+use count::Width;
 use scaler::Scales;
+use scaler::module::Scaler;
+pub use scaler::{by_value, in_place};
 
-pub mod by_value;
 mod counting;
-pub mod in_place;
 mod registers;
+
+// What a call gives: the answer, the module and the interrupter after it.
+pub type Outcome = scaler::module::Outcome<V560>;
+
+// What a call gives that was lent the interrupter: the answer and the module after it.
+pub type Lent = scaler::module::Lent<V560>;
 
 // Table 4.1 of source document 000, from the top.
 const TABLE: [Row; 13] = [
@@ -32,7 +40,7 @@ const TABLE: [Row; 13] = [
 ];
 
 // The scales, the joined sections, the sections that may request, and the veto latch.
-#[derive(Clone, Copy)]
+#[derive(Clone, Copy, PartialEq, Eq, Debug)]
 pub struct V560 {
     pub scales: Scales,
     pub joined: u8,
@@ -40,19 +48,50 @@ pub struct V560 {
     pub latch: bool,
 }
 
-// What a call gives: the answer, the module and the interrupter after it.
-#[derive(Clone, Copy)]
-pub struct Outcome {
-    pub answer: Answer,
-    pub state: V560,
-    pub interrupter: Interrupter,
-}
+impl Scaler for V560 {
+    ghost own = { v560 };
 
-// What a call gives that was lent the interrupter: the answer and the module after it.
-#[derive(Clone, Copy)]
-pub struct Lent {
-    pub answer: Answer,
-    pub state: V560,
+    fn scales(self) -> Scales {
+        self.scales
+    }
+
+    fn scaled(self, scales: Scales) -> Self {
+        V560 { scales, ..self }
+    }
+
+    fn table() -> &'static [Row] {
+        &TABLE
+    }
+
+    fn register(self, i: Interrupter, to: Reached, a: Access) -> Outcome {
+        registers::perform(to, self, i, a)
+    }
+
+    fn is_formed(self, i: Interrupter) -> bool {
+        i.is_well_formed()
+    }
+
+    fn is_unjoined(self) -> bool {
+        self.joined == 0
+    }
+
+    fn width() -> Width {
+        Width::Bits32
+    }
+
+    fn is_ignored(self, channel: usize) -> bool {
+        counting::is_high(self.joined, channel)
+    }
+
+    fn counts_after(self, channel: usize) -> [u32; 16] {
+        counting::counts_after(self.joined, self.scales.counts, channel)
+    }
+
+    fn watched(self, channel: usize) -> Option<u32> {
+        counting::is_watched(self.joined, self.sections, channel).then_some(31)
+    }
+
+    ghost sixteen_places = { refl };
 }
 
 // A module that is switched on, with the changeover switches of its sections.
@@ -65,27 +104,5 @@ pub fn start(joined: u8) -> Outcome
         sections: 0,
         latch: true,
     };
-    done(0, state, Interrupter::power_on(0))
-}
-
-// A call that is refused: all stays as it was.
-fn refused(why: Refusal, state: V560, interrupter: Interrupter) -> Outcome
-    ensures { result ≡ refused why state interrupter }
-{
-    Outcome {
-        answer: Err(why),
-        state,
-        interrupter,
-    }
-}
-
-// A call that is done, with the value read.
-fn done(value: u32, state: V560, interrupter: Interrupter) -> Outcome
-    ensures { result ≡ done value state interrupter }
-{
-    Outcome {
-        answer: Ok(value),
-        state,
-        interrupter,
-    }
+    Outcome::done(0, state, Interrupter::power_on(0))
 }

@@ -1,49 +1,26 @@
-// What an access does at each row of the table.
+// What an access does at the rows that the V260 has otherwise.
 ghost use Rattle.std.specs.Prelude.{◌≡◌, ◌<◌};
-ghost use Rattle.v560.specs.Registers.{obey, level_word, counter_at, lower_at, request_for, level_for, vector_for, performed};
+ghost use Rattle.v560.specs.Registers.{level_word, counter_at, request_for, level_for, vector_for, register};
 
-use crate::counting::test_pulse;
-use crate::{Outcome, V560, done, refused};
+use crate::{Outcome, V560};
 use bus::interrupter::Interrupter;
+use bus::table::Reached;
 use bus::{Access, Refusal};
-use scaler::Order;
-use scaler::rows::{
-    CLEAR_ACCESS, CLEAR_INTERRUPT, DISABLE_INTERRUPT, ENABLE_INTERRUPT, LEVEL_REGISTER,
-    LOWER_HALVES, REQUEST_REGISTER, SCALE_COUNTERS, SCALE_INCREASE, STATUS, VECTOR_REGISTER,
-    VETO_RESET, VETO_SET,
-};
-
-// What a command address, a line or the button does.
-pub(crate) fn obeyed(order: Order, s: V560, i: Interrupter) -> Outcome
-    ensures { result ≡ obey order s i }
-{
-    let now = scaler::obey(order, s.scales, i);
-    let scales = now.scales;
-    let mut state = s;
-    state.scales = scales;
-    done(0, state, now.interrupter)
-}
+use scaler::Scales;
+use scaler::rows::{LEVEL_REGISTER, REQUEST_REGISTER, SCALE_COUNTERS, STATUS, VECTOR_REGISTER};
 
 // An access of a row and a place in it.
-pub(crate) fn perform(row: usize, place: u32, s: V560, i: Interrupter, a: Access) -> Outcome
-    requires { (place < 16) × (i.level < 8) }
-    ensures { result ≡ performed row place s i a }
+pub(crate) fn perform(to: Reached, s: V560, i: Interrupter, a: Access) -> Outcome
+    requires { (to.place < 16) × (i.level < 8) }
+    ensures { result ≡ register to.row to.place s i a }
 {
-    match row {
-        STATUS => done(65280 + s.joined as u32, s, i),
-        SCALE_INCREASE => test_pulse(s, i),
-        VETO_RESET => obeyed(Order::VetoReset, s, i),
-        VETO_SET => obeyed(Order::VetoSet, s, i),
-        CLEAR_ACCESS => obeyed(Order::ClearAccess, s, i),
-        SCALE_COUNTERS => counter(place as usize, s, i, a.width),
-        LOWER_HALVES => lower_half(place as usize, s, i),
+    match to.row {
+        STATUS => Outcome::done(65280 + u32::from(s.joined), s, i),
+        SCALE_COUNTERS => counter(to.place as usize, s, i, a.width),
         REQUEST_REGISTER => request(s, i, a),
-        CLEAR_INTERRUPT => obeyed(Order::RemoveRequest, s, i),
-        DISABLE_INTERRUPT => obeyed(Order::Disable, s, i),
-        ENABLE_INTERRUPT => obeyed(Order::Enable, s, i),
         LEVEL_REGISTER => level(s, i, a),
         VECTOR_REGISTER => vector(s, i, a),
-        _ => refused(Refusal::NotInTable, s, i),
+        _ => Outcome::refused(Refusal::NotInTable, s, i),
     }
 }
 
@@ -52,37 +29,30 @@ fn counter(k: usize, s: V560, i: Interrupter, width: u32) -> Outcome
     requires { k < 16 }
     ensures { result ≡ counter_at k s i width }
 {
-    let mut scales = s.scales;
-    let word = scales.counts[k];
-    let mut state = s;
-    state.latch = !scales.is_inhibited();
+    let latch = !s.scales.is_inhibited();
+    let word = s.scales.counts[k];
     if width == 32 {
-        return done(word, state, i);
+        return Outcome::done(word, V560 { latch, ..s }, i);
     }
-    scales.latches[k] = word;
-    state.scales = scales;
-    done(word / 65536, state, i)
-}
-
-// The lower half of a counter.
-fn lower_half(k: usize, s: V560, i: Interrupter) -> Outcome
-    requires { k < 16 }
-    ensures { result ≡ lower_at k s i }
-{
-    let scales = s.scales;
-    done(scales.latches[k] % 65536, s, i)
+    let mut latches = s.scales.latches;
+    latches[k] = word;
+    let scales = Scales {
+        latches,
+        ..s.scales
+    };
+    Outcome::done(word / 65536, V560 { scales, latch, ..s }, i)
 }
 
 // The request register.
 fn request(s: V560, i: Interrupter, a: Access) -> Outcome
     ensures { result ≡ request_for a.write s i a.«data» }
 {
-    if !a.write {
-        return done(65280 + s.sections as u32, s, i);
+    if a.write {
+        let sections = (a.data % 256) as u8;
+        Outcome::done(0, V560 { sections, ..s }, i)
+    } else {
+        Outcome::done(65280 + u32::from(s.sections), s, i)
     }
-    let mut state = s;
-    state.sections = (a.data % 256) as u8;
-    done(0, state, i)
 }
 
 // The interrupt level and veto register.
@@ -91,9 +61,10 @@ fn level(s: V560, i: Interrupter, a: Access) -> Outcome
     ensures { result ≡ level_for a.write s i a.«data» }
 {
     if a.write {
-        return done(0, s, i.levelled(a.data % 8));
+        Outcome::done(0, s, i.levelled(a.data % 8))
+    } else {
+        Outcome::done(level_word(s.latch, i.level), s, i)
     }
-    done(level_word(s.latch, i.level), s, i)
 }
 
 // What the interrupt level and veto register reads.
@@ -101,10 +72,7 @@ fn level_word(latch: bool, level: u32) -> u32
     requires { level < 8 }
     ensures { result ≡ level_word latch level }
 {
-    if latch {
-        return 65528 + level;
-    }
-    65400 + level
+    0xFF78 + level + if latch { 0x80 } else { 0 }
 }
 
 // The interrupt vector register.
@@ -112,7 +80,8 @@ fn vector(s: V560, i: Interrupter, a: Access) -> Outcome
     ensures { result ≡ vector_for a.write s i a.«data» }
 {
     if a.write {
-        return done(0, s, i.vectored((a.data % 256) as u8));
+        Outcome::done(0, s, i.vectored((a.data % 256) as u8))
+    } else {
+        Outcome::done(65280 + u32::from(i.vector), s, i)
     }
-    done(65280 + i.vector as u32, s, i)
 }

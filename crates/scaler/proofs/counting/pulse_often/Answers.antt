@@ -1,0 +1,18 @@
+use mathlib.Core.Path.{◌≡◌, sym, ap, ◌∙◌}
+use native.Mathlib.Omega.{arith}
+use Rattle.count.proofs.Repeats.{iterate_none, iterate_more}
+use Rattle.scaler.specs.Calls.{pulse}
+use Rattle.scaler.proofs.counting.pulse_often.Goals as goal
+
+pub loop-init : goal.loop-init
+loop-init g c = sym (iterate_none (pulse g.M.Scaler.own c.args.channel) _)
+
+pub loop-preserved : goal.loop-preserved
+loop-preserved g c =
+    let f = pulse g.M.Scaler.own c.args.channel in
+    c.pulse_once-o.ensures ∙ ap f c.loop.invariant ∙ sym (iterate_more f _ c.loop.counter)
+
+pub returns : goal.returns
+returns g c =
+    let all : c.loop.counter ≡ c.args.n = omega (arith, c.loop-test.false, c.loop.auto.counter-end) in
+    rw (← all, ← c.done-o.ensures) c.loop.invariant
