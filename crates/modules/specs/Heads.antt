@@ -1,5 +1,5 @@
 -- How a module is started from the values of a head; docs/FORMATS.md, `trace`. Assumes nothing.
-use Rattle.std.specs.Prelude.{ℕ, ◌/◌, ◌%◌, ◌^◌, List, eqb, get_or, take, drop, min}
+use Rattle.std.specs.Prelude.{ℕ, ◌/◌, ◌%◌, ◌^◌, cond, Option, Some, None, List, ◌==◌, eqb, get_or, take, drop, min}
 use Rattle.meb.specs.Ring.{Memory}
 use Rattle.scaler.specs.Orders.{counting}
 use Rattle.scaler.specs.declared.module.Outcome.{Outcome}
@@ -15,6 +15,10 @@ use Rattle.modules.specs.declared.Held.{Held}
 use Rattle.modules.specs.declared.Which.{Which}
 use Rattle.modules.specs.declared.Which.TheVariants as which
 use Rattle.modules.specs.Entries.{after260, after560, after830}
+
+-- "The head's first number names the module."
+abbrev pub named : ℕ → Option Which
+named name = cond (name == 260) (Some which.V260) (cond (name == 560) (Some which.V560) (cond (name == 830) (Some which.V830) None))
 
 -- "bit 0 set, JP18 inserted; bit 1 set, JP17 inserted"
 abbrev pub switches_of : List ℕ → Switches

@@ -4,7 +4,7 @@
 ghost use Rattle.std.specs.Prelude.{◌≡◌, ◌+◌, ◌≤◌, length, take, drop};
 ghost use Rattle.meb.specs.Ring.{lent};
 ghost use Rattle.modules.specs.Entries.{call_of, acted, memory_after};
-ghost use Rattle.modules.specs.Heads.{switches_of, begun260, begun560, begun830, begun_of, lent_of};
+ghost use Rattle.modules.specs.Heads.{named, switches_of, begun260, begun560, begun830, begun_of, lent_of};
 
 use benchlog::Entry;
 use bus::Answer;
@@ -16,11 +16,25 @@ use v560::V560;
 use v830::V830;
 
 // Which of the three it is.
-#[derive(Clone, Copy)]
+#[derive(Clone, Copy, PartialEq, Eq, Debug)]
 pub enum Which {
     V260,
     V560,
     V830,
+}
+
+impl Which {
+    // The module that a number names.
+    pub fn named(name: u32) -> Option<Which>
+        ensures { result ≡ named name }
+    {
+        match name {
+            260 => Some(Which::V260),
+            560 => Some(Which::V560),
+            830 => Some(Which::V830),
+            _ => None,
+        }
+    }
 }
 
 // The module that there is; the two scalers have an interrupter beside them, a V830 has none.

@@ -88,6 +88,7 @@ use Rattle.logged.proofs.call_830_of.Reads as logged-call-830-of
 use Rattle.modules.proofs.act.Reads as modules-act
 use Rattle.modules.proofs.begin.Reads as modules-begin
 use Rattle.modules.proofs.lent.Reads as modules-lent
+use Rattle.modules.proofs.Which.named.Reads as modules-named
 use Rattle.night.proofs.begin.Reads as night-begin
 use Rattle.night.proofs.put_heading.Reads as night-put-heading
 use Rattle.night.proofs.replay.Reads as night-replay
@@ -336,6 +337,9 @@ one_modules_act κ given first second e d p q = (determined p.0 q.0, determined 
 
 pub one_modules_begin : OneResult modules-begin.Post
 one_modules_begin κ given first second e d p q = determined p q
+
+pub one_modules_named : OneResult modules-named.Post
+one_modules_named κ given first second e d p q = determined p q
 
 pub one_modules_lent : OneResult modules-lent.Post
 one_modules_lent κ given first second e d p q = determined p.0 q.0
