@@ -2,8 +2,8 @@
 
 // Shows everything that a V260, a V560 or a V830 holds, after each entry of a log.
 ghost use Rattle.std.specs.Prelude.{◌≡◌, ◌≤◌, length};
-ghost use Rattle.head.specs.Heads.{up_from};
-ghost use Rattle.trace.specs.Start.{limits260, limits560, limits830, head_in, which_of};
+ghost use Rattle.head.specs.Heads.{head_of, up_from};
+ghost use Rattle.trace.specs.Start.{limits_of, head_in};
 
 use benchlog::{Entry, Fault, Reading};
 use columns::{numbers_260, numbers_560, numbers_830};
@@ -12,9 +12,6 @@ use modules::{Held, Module, Which};
 use stdio::{Amiss, Listing};
 
 mod columns;
-
-// No limit, for the number that names the module.
-const ANY: [u32; 1] = [4294967295];
 
 // A listing under way: the buffers and the memory lent to it, where it stands in them, the module, and how many entries
 // it has shown.
@@ -30,66 +27,53 @@ struct Course<'a> {
     ghost had: { listing.have ≤ length buf.now },
 }
 
-// The limits of a V260's head: joined, interrupts and jumpers have one.
-fn limits_260() -> [u32; 21]
-    ensures { result ≡ limits260 }
+// The head of a module; a number has a limit of its own, or none.
+fn head_of(which: Which, input: &[u8]) -> Result<Head, Fault>
+    ensures { result ≡ head_of input.now (limits_of which) }
 {
-    let mut limits = [4294967295u32; 21];
-    limits[1] = 65535;
-    limits[2] = 65535;
-    limits[3] = 3;
-    limits
-}
-
-// The limits of a V560's head: joined has one.
-fn limits_560() -> [u32; 18]
-    ensures { result ≡ limits560 }
-{
-    let mut limits = [4294967295u32; 18];
-    limits[1] = 255;
-    limits
-}
-
-// The limits of a V830's head: capacity has one.
-fn limits_830() -> [u32; 35]
-    ensures { result ≡ limits830 }
-{
-    let mut limits = [4294967295u32; 35];
-    limits[2] = 40000;
-    limits
+    let mut limits = [u32::MAX; 40];
+    let many = match which {
+        Which::V260 => {
+            limits[1] = 65535;
+            limits[2] = 65535;
+            limits[3] = 3;
+            21
+        }
+        Which::V560 => {
+            limits[1] = 255;
+            18
+        }
+        Which::V830 => {
+            limits[2] = 40000;
+            35
+        }
+    };
+    head::read_head(input, &limits[..many])
 }
 
 // The head that an input begins with; its first number names the module.
-fn head_in(input: &[u8]) -> Result<Head, Fault>
+fn head_in(input: &[u8]) -> Result<(Which, Head), Fault>
     ensures { result ≡ head_in input.now }
 {
-    let name = head::read_head(input, &ANY)?;
-    match name.values[0] {
-        260 => head::read_head(input, &limits_260()),
-        560 => head::read_head(input, &limits_560()),
-        830 => head::read_head(input, &limits_830()),
-        _ => Err(Fault::NoSuchKind),
-    }
+    let name = head::read_head(input, &[u32::MAX])?;
+    let Some(which) = Which::named(name.values[0]) else {
+        return Err(Fault::NoSuchKind);
+    };
+    Ok((which, head_of(which, input)?))
 }
 
-// Puts the line that names the columns.
-fn put_names(out: &mut [u8], which: Which) -> usize {
-    match which {
-        Which::V260 => text::put_text(
-            out,
-            0,
-            b"entry answer value enabled requested level vector line vme c0 c1 c2 c3 c4 c5 c6 c7 c8 c9 c10 c11 c12 c13 c14 c15 l0 l1 l2 l3 l4 l5 l6 l7 l8 l9 l10 l11 l12 l13 l14 l15\n",
-        ),
-        Which::V560 => text::put_text(
-            out,
-            0,
-            b"entry answer value enabled requested level vector line vme sections latch c0 c1 c2 c3 c4 c5 c6 c7 c8 c9 c10 c11 c12 c13 c14 c15 l0 l1 l2 l3 l4 l5 l6 l7 l8 l9 l10 l11 l12 l13 l14 l15\n",
-        ),
-        Which::V830 => text::put_text(
-            out,
-            0,
-            b"entry answer value geo control enable triggers veto capacity first stored c0 c1 c2 c3 c4 c5 c6 c7 c8 c9 c10 c11 c12 c13 c14 c15 c16 c17 c18 c19 c20 c21 c22 c23 c24 c25 c26 c27 c28 c29 c30 c31\n",
-        ),
+// The line that names the columns.
+fn names(module: Module) -> &'static [u8] {
+    match module {
+        Module::V260(_, _) => {
+            b"entry answer value enabled requested level vector line vme c0 c1 c2 c3 c4 c5 c6 c7 c8 c9 c10 c11 c12 c13 c14 c15 l0 l1 l2 l3 l4 l5 l6 l7 l8 l9 l10 l11 l12 l13 l14 l15\n"
+        }
+        Module::V560(_, _) => {
+            b"entry answer value enabled requested level vector line vme sections latch c0 c1 c2 c3 c4 c5 c6 c7 c8 c9 c10 c11 c12 c13 c14 c15 l0 l1 l2 l3 l4 l5 l6 l7 l8 l9 l10 l11 l12 l13 l14 l15\n"
+        }
+        Module::V830(_) => {
+            b"entry answer value geo control enable triggers veto capacity first stored c0 c1 c2 c3 c4 c5 c6 c7 c8 c9 c10 c11 c12 c13 c14 c15 c16 c17 c18 c19 c20 c21 c22 c23 c24 c25 c26 c27 c28 c29 c30 c31\n"
+        }
     }
 }
 
@@ -110,7 +94,7 @@ fn put_held(out: &mut [u8], room: usize, entry: u64, traced: Held) -> usize {
 fn put_word(rt: &HostRuntime, out: &mut [u8], before: Listing, word: u32) -> Listing {
     let mut l = before.make_room(rt, out, 11);
     let p = text::put_text(out, l.at, b" ");
-    l.at = text::put_number(out, p, word as u64);
+    l.at = text::put_number(out, p, u64::from(word));
     l
 }
 
@@ -163,8 +147,10 @@ impl Course<'_> {
         }
     }
 
-    // Shows each entry, and then what comes after the last line.
-    fn run(&mut self) -> Listing {
+    // Shows the start, each entry, and then what comes after the last line.
+    fn list(&mut self) -> Listing {
+        let at = text::put_text(self.out, 0, names(self.traced.module));
+        self.listing.at = put_held(self.out, at, 0, self.traced);
         for _ in 0..stdio::TURNS {
             if !self.listing.more {
                 break;
@@ -173,51 +159,6 @@ impl Course<'_> {
         }
         put_last(self.rt, self.out, self.listing, self.traced, self.memory)
     }
-}
-
-// Shows the start and each entry behind a head.
-fn list_entries(
-    rt: &HostRuntime,
-    buf: &mut [u8],
-    out: &mut [u8],
-    memory: &mut [u32],
-    first: Listing,
-    head: Head,
-) -> Listing
-    requires { first.have ≤ length buf.old }
-{
-    let which = which_of(head.values[0]);
-    let traced = modules::begin(which, head.values, memory);
-    let at = put_names(out, which);
-    let at = put_held(out, at, 0, traced);
-    let listing = Listing {
-        used: head.after,
-        at,
-        ..first
-    };
-    let mut course = Course {
-        rt,
-        buf,
-        out,
-        memory,
-        listing,
-        traced,
-        entries: 0,
-    };
-    course.run()
-}
-
-// The module that a head names.
-fn which_of(name: u32) -> Which
-    ensures { result ≡ which_of name }
-{
-    if name == 260 {
-        return Which::V260;
-    }
-    if name == 560 {
-        return Which::V560;
-    }
-    Which::V830
 }
 
 // The listing behind its beginning; a refused head is its fault line alone.
@@ -233,23 +174,27 @@ fn list(
     if !first.more {
         return first;
     }
-    let have = first.have;
-    match head_in(&buf[..have]) {
-        Ok(head) => {
-            let values = head.values;
-            let end = modules::lent(which_of(values[0]), values, memory.len());
-            list_entries(rt, buf, out, &mut memory[..end], first, head)
-        }
-        Err(fault) => first.fault(out, fault.number()),
-    }
-}
-
-// Whether the bytes that are read end inside the head.
-fn ends_in_head(buf: &[u8], l: Listing) -> bool
-    requires { l.have ≤ length buf.now }
-{
-    let have = l.have;
-    matches!(head_in(&buf[..have]), Err(Fault::Ends))
+    let (which, head) = match head_in(&buf[..first.have]) {
+        Ok(named) => named,
+        Err(fault) => return first.fault(out, fault.number()),
+    };
+    let lent = modules::lent(which, head.values, memory.len());
+    let memory = &mut memory[..lent];
+    let traced = modules::begin(which, head.values, memory);
+    let listing = Listing {
+        used: head.after,
+        ..first
+    };
+    let mut course = Course {
+        rt,
+        buf,
+        out,
+        memory,
+        listing,
+        traced,
+        entries: 0,
+    };
+    course.list()
 }
 
 // Begins the listing: reads on until the head is whole or refused, or the input has ended, or a read fails.
@@ -258,7 +203,7 @@ fn begun(rt: &HostRuntime, buf: &mut [u8]) -> Listing
 {
     let mut l = Listing::begin(0);
     for _ in 0..stdio::TURNS {
-        if !l.more || l.ended || !ends_in_head(buf, l) {
+        if !l.more || l.ended || !matches!(head_in(&buf[..l.have]), Err(Fault::Ends)) {
             break;
         }
         l = l.read_on(rt, buf);
