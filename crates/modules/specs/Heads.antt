@@ -2,12 +2,13 @@
 use Rattle.std.specs.Prelude.{ℕ, ◌/◌, ◌%◌, ◌^◌, cond, Option, Some, None, List, ◌==◌, eqb, get_or, take, drop, min}
 use Rattle.meb.specs.Ring.{Memory}
 use Rattle.scaler.specs.Orders.{counting}
+use Rattle.scaler.specs.Module.{Module}
 use Rattle.scaler.specs.declared.module.Outcome.{Outcome}
 use Rattle.v260.specs.declared.Switches.{Switches}
-use Rattle.v260.specs.declared.V260.{V260}
-use Rattle.v260.specs.Outcomes as v260
-use Rattle.v560.specs.declared.V560.{V560}
-use Rattle.v560.specs.Outcomes as v560
+use Rattle.v260.specs.Module.{v260}
+use Rattle.v260.specs.Outcomes.{start_of}
+use Rattle.v560.specs.Module.{v560}
+use Rattle.v560.specs.Outcomes.{started}
 use Rattle.v830.specs.declared.Outcome as o830
 use Rattle.v830.specs.Outcomes as v830
 use Rattle.v830.specs.State as s830
@@ -32,23 +33,19 @@ switches_of values =
 
 -- "The counts `c0` to `c15` (V830: `c31`), any numbers, are then put into the record that the start gave, whatever it
 -- answered"
-abbrev pub counted260 : List ℕ → Outcome V260 → Outcome V260
-counted260 counts o =
-    record { answer = o.answer; state = v260.scaled (counting counts o.state.scales) o.state; interrupter = o.interrupter }
-
-abbrev pub counted560 : List ℕ → Outcome V560 → Outcome V560
-counted560 counts o =
-    record { answer = o.answer; state = v560.scaled (counting counts o.state.scales) o.state; interrupter = o.interrupter }
+abbrev pub counted : {S : Type 0} → Module S → List ℕ → Outcome S → Outcome S
+counted m counts o =
+    record { answer = o.answer; state = m.scaled (counting counts (m.scales o.state)) o.state; interrupter = o.interrupter }
 
 abbrev pub counted830 : List ℕ → o830.Outcome → o830.Outcome
 counted830 counts o = record { answer = o.answer; state = s830.counting counts o.state }
 
 -- "The module is started with the switches of the head (a V830 with `geo` and the lent words)"
 abbrev pub begun260 : List ℕ → Held
-begun260 values = after260 (counted260 (take 16 (drop 5 values)) (v260.start_of (switches_of values) (get_or values 4 0)))
+begun260 values = after260 (counted v260 (take 16 (drop 5 values)) (start_of (switches_of values) (get_or values 4 0)))
 
 abbrev pub begun560 : List ℕ → Held
-begun560 values = after560 (counted560 (take 16 (drop 2 values)) (v560.started (get_or values 1 0 % 2 ^ 8)))
+begun560 values = after560 (counted v560 (take 16 (drop 2 values)) (started (get_or values 1 0 % 2 ^ 8)))
 
 abbrev pub begun830 : List ℕ → Memory → Held
 begun830 values memory = after830 (counted830 (take 32 (drop 3 values)) (v830.started (get_or values 1 0) memory))

@@ -3,14 +3,16 @@
 // The three modules as one: whichever a head names, started, and what an entry of the log does to it.
 ghost use Rattle.std.specs.Prelude.{◌≡◌, ◌+◌, ◌≤◌, length, take, drop};
 ghost use Rattle.meb.specs.Ring.{lent};
-ghost use Rattle.modules.specs.Entries.{call_of, acted, memory_after};
-ghost use Rattle.modules.specs.Heads.{named, switches_of, begun260, begun560, begun830, begun_of, lent_of};
+ghost use Rattle.scaler.specs.Calls.{step_of};
+ghost use Rattle.modules.specs.Entries.{call_of, after260, after560, after830, acted, memory_after};
+ghost use Rattle.modules.specs.Heads.{named, switches_of, counted, begun260, begun560, begun830, begun_of, lent_of};
 
 use benchlog::Entry;
 use bus::Answer;
 use bus::interrupter::Interrupter;
 use logged::{access_for, call_830_of};
-use scaler::{Call, Scales};
+use scaler::module::{Outcome, Scaler};
+use scaler::{Call, Scales, in_place};
 use v260::{Switches, V260};
 use v560::V560;
 use v830::V830;
@@ -38,7 +40,7 @@ impl Which {
 }
 
 // The module that there is; the two scalers have an interrupter beside them, a V830 has none.
-#[derive(Clone, Copy)]
+#[derive(Clone, Copy, PartialEq, Eq, Debug)]
 pub enum Module {
     V260(V260, Interrupter),
     V560(V560, Interrupter),
@@ -46,7 +48,7 @@ pub enum Module {
 }
 
 // A module, with the answer of its last call.
-#[derive(Clone, Copy)]
+#[derive(Clone, Copy, PartialEq, Eq, Debug)]
 pub struct Held {
     pub answer: Answer,
     pub module: Module,
@@ -68,32 +70,62 @@ fn call_of(entry: Entry) -> Call
     }
 }
 
+// What a call of a V260 leaves.
+impl From<Outcome<V260>> for Held {
+    ghost from_gives = { λ o held. held ≡ after260 o };
+
+    fn from(o: Outcome<V260>) -> Held {
+        Held {
+            answer: o.answer,
+            module: Module::V260(o.state, o.interrupter),
+        }
+    }
+}
+
+// What a call of a V560 leaves.
+impl From<Outcome<V560>> for Held {
+    ghost from_gives = { λ o held. held ≡ after560 o };
+
+    fn from(o: Outcome<V560>) -> Held {
+        Held {
+            answer: o.answer,
+            module: Module::V560(o.state, o.interrupter),
+        }
+    }
+}
+
+// What a call of a V830 leaves.
+impl From<v830::Outcome> for Held {
+    ghost from_gives = { λ o held. held ≡ after830 o };
+
+    fn from(o: v830::Outcome) -> Held {
+        Held {
+            answer: o.answer,
+            module: Module::V830(o.state),
+        }
+    }
+}
+
+// A call of a module of sixteen scales, to which the interrupter is lent.
+fn lend<M: Scaler>(state: M, mut interrupter: Interrupter, call: Call) -> Outcome<M>
+    ensures { result ≡ step_of M.own state interrupter call }
+{
+    let l = in_place::step(state, &mut interrupter, call);
+    Outcome {
+        answer: l.answer,
+        state: l.state,
+        interrupter,
+    }
+}
+
 // The module after an entry; a V830 is lent the memory.
 pub fn act(t: Held, memory: &mut [u32], entry: Entry) -> Held
     ensures { (result ≡ acted t (lent memory.old) entry) × (memory.new ≡ (memory_after t (lent memory.old) entry).words) }
 {
     match t.module {
-        Module::V260(s, mut i) => {
-            let o = v260::in_place::step(s, &mut i, call_of(entry));
-            Held {
-                answer: o.answer,
-                module: Module::V260(o.state, i),
-            }
-        }
-        Module::V560(s, mut i) => {
-            let o = v560::in_place::step(s, &mut i, call_of(entry));
-            Held {
-                answer: o.answer,
-                module: Module::V560(o.state, i),
-            }
-        }
-        Module::V830(s) => {
-            let o = v830::step(s, memory, call_830_of(entry));
-            Held {
-                answer: o.answer,
-                module: Module::V830(o.state),
-            }
-        }
+        Module::V260(s, i) => lend(s, i, call_of(entry)).into(),
+        Module::V560(s, i) => lend(s, i, call_of(entry)).into(),
+        Module::V830(s) => v830::step(s, memory, call_830_of(entry)).into(),
     }
 }
 
@@ -119,36 +151,33 @@ fn switches_of(values: [u32; 40]) -> Switches
     }
 }
 
+// A module of sixteen scales that is started, given its counts of a head's values, from a place on.
+fn counted<M: Scaler>(o: Outcome<M>, values: [u32; 40], from: usize) -> Outcome<M>
+    requires { from + 16 ≤ 40 }
+    ensures { result ≡ counted M.own (take 16 (drop from values)) o }
+{
+    let scales = Scales {
+        counts: counts_of(values, from),
+        ..o.state.scales()
+    };
+    Outcome {
+        state: o.state.scaled(scales),
+        ..o
+    }
+}
+
 // A V260 that is started with the switches of a head, and then given its counts.
 fn begin_260(values: [u32; 40]) -> Held
     ensures { result ≡ begun260 values }
 {
-    let o = v260::start(switches_of(values), values[4]);
-    let scales = Scales {
-        counts: counts_of(values, 5),
-        ..o.state.scales
-    };
-    let state = V260 { scales, ..o.state };
-    Held {
-        answer: o.answer,
-        module: Module::V260(state, o.interrupter),
-    }
+    counted(v260::start(switches_of(values), values[4]), values, 5).into()
 }
 
 // A V560, likewise.
 fn begin_560(values: [u32; 40]) -> Held
     ensures { result ≡ begun560 values }
 {
-    let o = v560::start((values[1] % 256) as u8);
-    let scales = Scales {
-        counts: counts_of(values, 2),
-        ..o.state.scales
-    };
-    let state = V560 { scales, ..o.state };
-    Held {
-        answer: o.answer,
-        module: Module::V560(state, o.interrupter),
-    }
+    counted(v560::start((values[1] % 256) as u8), values, 2).into()
 }
 
 // A V830, likewise, with the memory that is lent to it.
@@ -160,10 +189,7 @@ fn begin_830(values: [u32; 40], memory: &[u32]) -> Held
         counts: counts_of(values, 3),
         ..o.state
     };
-    Held {
-        answer: o.answer,
-        module: Module::V830(state),
-    }
+    v830::Outcome { state, ..o }.into()
 }
 
 // The module that is named, started with the values of its head and the memory that is lent to it.
