@@ -33,8 +33,8 @@ impl V830 {
         !call.is_lent() || self.has_length(memory)
     }
 
-    // Does what a call is to do, to a module that is not malformed. That is a clause, here and of the trigger, and not a
-    // type round the record: a record is what its maker writes, and each of these deeds would have to open the type.
+    // Does what a call is to do, to a module that is not malformed. That is a clause, here and of the trigger, and not
+    // a type round the record: a record is what its maker writes, and each of these deeds would have to open the type.
     fn perform(self, deed: Deed, memory: &mut [u32]) -> Outcome
         requires { (formed self ≡ true) × (counter_of deed < 32) }
         ensures { (result ≡ (done_by deed self (lent memory.old)).outcome) × (memory.new ≡ (done_by deed self (lent memory.old)).memory.words) }

@@ -62,7 +62,8 @@ impl V830 {
         }
     }
 
-    // Whether the words stored can be those of events, which have words where a channel is enabled or there is a header.
+    // Whether the words stored can be those of events, which have words where a channel is enabled or there is a
+    // header.
     fn is_explained(self) -> bool
         ensures { result ≡ explained self }
     {
