@@ -35,9 +35,10 @@ pub fn tick(width: Width, count: u32) -> Ticked
     ensures { result ≡ tick_of (bits_of width) count }
 {
     let count = u64::from(count);
+    let modulus = width.modulus();
     Ticked {
-        value: ((count + 1) % width.modulus()) as u32,
-        carry: count == width.modulus() - 1,
+        value: ((count + 1) % modulus) as u32,
+        carry: count == modulus - 1,
     }
 }
 

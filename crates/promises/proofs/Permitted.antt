@@ -204,8 +204,8 @@ module _ (T : RattleType) (l : Laws T) where
   pub one_scaler_done : OneResult (scaler-done.Post T l)
   one_scaler_done κ given first second e d p q = determined p q
 
-pub one_scaler_lent : {M : Type 1} (T : RattleType) → OneLent {M = M} (scaler-lent.ended T) (λ 𝓤. scaler-lent.clauses T {𝓤 = 𝓤}) (λ κ e. e.1.0.now)
-one_scaler_lent T 𝓤 𝓛 mem run κ given x first second e d = both_determined 𝓤 _ _ _ _ _ _
+  pub one_scaler_lent : {M : Type 1} → OneLent {M = M} (scaler-lent.ended T) (λ 𝓤. scaler-lent.clauses T {𝓤 = 𝓤}) (λ κ e. e.1.0.now)
+  one_scaler_lent 𝓤 𝓛 mem run κ given x first second e d = both_determined 𝓤 _ _ _ _ _ _
 
 -- of every module of sixteen scales, and so of the V260 and of the V560: its states T, what it has of its own and its
 -- code, g and d, and how a state is copied

@@ -1,5 +1,6 @@
 // The names of the rows of a module's table, each the row's place: the same in both tables (table 4.1 of source
-// documents 000 and 001).
+// documents 000 and 001). They are numbers and not an enum, since the paper's table is looked up at each access and
+// gives a place in it: an enum would only be made of that number again.
 
 pub const STATUS: usize = 0;
 

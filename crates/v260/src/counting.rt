@@ -6,56 +6,55 @@ ghost use Rattle.v260.specs.Counting.{is_joined, pulsed, may_request, interrupt_
 use crate::Switches;
 use count::Width;
 
-// Whether a channel is joined to the one before it.
-pub(crate) fn is_joined(switches: Switches, channel: usize) -> bool
-    requires { channel < 16 }
-    ensures { result ≡ is_joined switches channel }
-{
-    (u32::from(switches.joined) >> channel) % 2 == 1
-}
-
-// The counts after a pulse that is admitted to a channel.
-pub(crate) fn counts_after(switches: Switches, mut counts: [u32; 16], channel: usize) -> [u32; 16]
-    requires { channel < 16 }
-    ensures { result ≡ pulsed switches counts channel }
-{
-    let mut k = channel;
-    for _ in 0..16u32 {
-        let ticked = count::tick(Width::Bits24, counts[k]);
-        counts[k] = ticked.value;
-        k = (k + 1) % 16;
-        if !ticked.carry || !is_joined(switches, k) {
-            return counts;
-        }
+impl Switches {
+    // Whether a channel is joined to the one before it.
+    pub(crate) fn is_joined(self, channel: usize) -> bool
+        requires { channel < 16 }
+        ensures { result ≡ is_joined self channel }
+    {
+        (u32::from(self.joined) >> channel) % 2 == 1
     }
-    counts
-}
 
-// The bit that is watched in a channel, if it may request.
-pub(crate) fn watched(switches: Switches, channel: usize) -> Option<u32>
-    requires { channel < 16 }
-    ensures { result ≡ watched switches channel }
-{
-    may_request(switches, channel).then_some(watched_bit(switches, channel))
-}
+    // The counts after a pulse that is admitted to a channel.
+    pub(crate) fn counts_after(self, mut counts: [u32; 16], channel: usize) -> [u32; 16]
+        requires { channel < 16 }
+        ensures { result ≡ pulsed self counts channel }
+    {
+        let mut k = channel;
+        for _ in 0..16u32 {
+            let ticked = count::tick(Width::Bits24, counts[k]);
+            counts[k] = ticked.value;
+            k = (k + 1) % 16;
+            if !ticked.carry || !self.is_joined(k) {
+                return counts;
+            }
+        }
+        counts
+    }
 
-// Whether a channel may request.
-fn may_request(switches: Switches, channel: usize) -> bool
-    requires { channel < 16 }
-    ensures { result ≡ may_request switches channel }
-{
-    (u32::from(switches.interrupts) >> channel) % 2 == 1
-}
+    // The bit that is watched in a channel, if it may request.
+    pub(crate) fn watched(self, channel: usize) -> Option<u32>
+        requires { channel < 16 }
+        ensures { result ≡ watched self channel }
+    {
+        self.may_request(channel)
+            .then_some(self.watched_bit(channel))
+    }
 
-// The bit that is watched in a channel.
-fn watched_bit(switches: Switches, channel: usize) -> u32
-    ensures { result ≡ watched_bit switches channel }
-{
-    interrupt_bit(if channel < 8 {
-        switches.jp18
-    } else {
-        switches.jp17
-    })
+    // Whether a channel may request.
+    fn may_request(self, channel: usize) -> bool
+        requires { channel < 16 }
+        ensures { result ≡ may_request self channel }
+    {
+        (u32::from(self.interrupts) >> channel) % 2 == 1
+    }
+
+    // The bit that is watched in a channel, by its half's jumper.
+    fn watched_bit(self, channel: usize) -> u32
+        ensures { result ≡ watched_bit self channel }
+    {
+        interrupt_bit(if channel < 8 { self.jp18 } else { self.jp17 })
+    }
 }
 
 // The bit that a jumper selects.

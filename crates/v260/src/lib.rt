@@ -91,15 +91,15 @@ impl Scaler for V260 {
     }
 
     fn is_ignored(self, channel: usize) -> bool {
-        counting::is_joined(self.switches, channel)
+        self.switches.is_joined(channel)
     }
 
     fn counts_after(self, channel: usize) -> [u32; 16] {
-        counting::counts_after(self.switches, self.scales.counts, channel)
+        self.switches.counts_after(self.scales.counts, channel)
     }
 
     fn watched(self, channel: usize) -> Option<u32> {
-        counting::watched(self.switches, channel)
+        self.switches.watched(channel)
     }
 
     ghost sixteen_places = { refl };

@@ -1,6 +1,6 @@
--- T1 of the V560 where the interrupter is lent: each call of `in_place` meets clauses which promise, in every model, that
--- its number is the one of document 01's list and that a refused call leaves the module and the lent interrupter as
--- they were, with the value 0. The laws are scaler's, of every module of sixteen scales; that the V560 is one is
+-- T1 of the V560 where the interrupter is lent: each call of `in_place` meets clauses which promise, in every model,
+-- that its number is the one of document 01's list and that a refused call leaves the module and the lent interrupter
+-- as they were, with the value 0. The laws are scaler's, of every module of sixteen scales; that the V560 is one is
 -- `v560_is_a_module`. Assumes nothing.
 use Rattle.std.below.core.specs.contracts.clone.Clone+copy.TheImpl as copied
 use Rattle.scaler.proofs.Untouched.{LentAccess, LentPulses, LentTest, LentClearLine, LentVetoLine, LentManClr, LentStep, lent_access, lent_pulses, lent_test, lent_clear_line, lent_veto_line, lent_man_clr, lent_step}

@@ -1,4 +1,5 @@
-// What pulses do: a channel counts, the joined one counts its carries, and a watched bit that rises requests.
+// What pulses do: a channel counts, the joined one counts its carries, and a watched bit that rises requests. Each is
+// asked of the byte of switches that it needs, and not of the module, which a method would copy for it.
 ghost use Rattle.std.specs.Prelude.{◌≡◌, ◌<◌};
 ghost use Rattle.v560.specs.Counting.{is_joined, is_high, is_low, watches, pulsed};
 

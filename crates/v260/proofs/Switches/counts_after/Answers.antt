@@ -9,15 +9,15 @@ use Rattle.count.proofs.Tests.{holds, fails}
 use Rattle.scaler.specs.Clock.{count_one}
 use Rattle.scaler.proofs.Clocks.{clocked_stops, clocked_on, clocked_over}
 use Rattle.v260.specs.Counting.{after, is_joined, pulsed}
-use Rattle.v260.proofs.counting.counts_after.Goals.{then-not-ticked-via-then-not-ticked, then-not-ticked-via-else-not-ticked+then-not-is_joined}
-use Rattle.v260.proofs.counting.counts_after.Goals as goal
+use Rattle.v260.proofs.Switches.counts_after.Goals.{then-not-ticked-via-then-not-ticked, then-not-ticked-via-else-not-ticked+then-not-is_joined}
+use Rattle.v260.proofs.Switches.counts_after.Goals as goal
 
 pub returns-then-not-ticked : goal.returns-then-not-ticked
 returns-then-not-ticked c =
     let t = c.tick-ticked in
     let l = c.loop in
-    let joins = λ (k : _). is_joined c.args.switches (after k) in
-    let stops : carries 24 (get_or l.counts l.k 0) && joins l.k ≡ false → count_one 24 l.k l.counts ≡ pulsed c.args.switches c.args.counts c.args.channel =
+    let joins = λ (k : _). is_joined c.args.self (after k) in
+    let stops : carries 24 (get_or l.counts l.k 0) && joins l.k ≡ false → count_one 24 l.k l.counts ≡ pulsed c.args.self c.args.counts c.args.channel =
     λ e. sym (clocked_stops 24 joins after 16 l.counter l.k l.counts (search rules) e) ∙ l.invariant.2 in
     rw t.ensures (stops (elim c.then-not-ticked.branch [
       | then-not-ticked-via-then-not-ticked w ↦ rw (fails (ap (λ (t : Ticked). t.carry) t.ensures) w.if-not-ticked.true)
@@ -29,8 +29,8 @@ loop-preserved c =
     let t = c.tick-ticked in
     let l = c.loop in
     let n : carries 24 (get_or l.counts l.k 0) ≡ true = holds (ap (λ (t : Ticked). t.carry) t.ensures) c.if-not-ticked.false in
-    let j : is_joined c.args.switches (after l.k) ≡ true = holds c.is_joined.ensures (ap not c.if-not-is_joined.false) in
-    (search rules, rw length-set l.invariant.1, rw t.ensures (sym (clocked_on 24 (λ k. is_joined c.args.switches (after k)) after 16 l.counter l.k l.counts (search rules) (rw (n, j))) ∙ l.invariant.2))
+    let j : is_joined c.args.self (after l.k) ≡ true = holds c.is_joined.ensures (ap not c.if-not-is_joined.false) in
+    (search rules, rw length-set l.invariant.1, rw t.ensures (sym (clocked_on 24 (λ k. is_joined c.args.self (after k)) after 16 l.counter l.k l.counts (search rules) (rw (n, j))) ∙ l.invariant.2))
 
 pub returns : goal.returns
 returns c = let l = c.loop in sym (clocked_over 24 _ _ 16 l.counter l.k l.counts (search rules)) ∙ l.invariant.2
