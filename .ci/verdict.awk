@@ -32,9 +32,12 @@ function function_at(file, row,    path, module, type, found, line, word) {
 }
 
 # Where a check failed, from the line by which rt tells it: a function (or a file of laws) and the goal there; or
-# 'no refusal: ' and that line. A function's goal that has no answer is told by the place in the code that owes it.
-function need_in(told,    rest, place, at) {
-    if (match(told, /^note: src\/[^:]*:[0-9]+:[0-9]+: it is not proved that .*\(`[^`]*`\)/)) {
+# 'no refusal: ' and that line. A function's goal that has no answer is told by the place in the code that owes it;
+# where a search found no proof of it, it counts only if values are known at which it is false.
+function need_in(told,    rest, place, at, false_there) {
+    false_there = told ~ /the facts known there allow values at which this goal is false/
+    if (match(told, /^note: src\/[^:]*:[0-9]+:[0-9]+: it is not proved that .*\(`[^`]*`\)/) ||
+        false_there && match(told, /^note: src\/[^:]*:[0-9]+:[0-9]+: `search` found no proof \(`[^`]*`\)/)) {
         rest = substr(told, RSTART, RLENGTH)
         split(substr(rest, 7), at, ":")
         sub(/`\)$/, "", rest)

@@ -2,7 +2,7 @@
 -- "left to right, the first fault found", and there is exactly one: both ways, one `then` after the other. Assumes
 -- nothing.
 use Prim.Native.Nat.{ℕ, zero, suc, ◌-◌, ◌^◌, ◌≤◌, ◌<◌}
-use mathlib.Core.Path.{◌≡◌, refl, subst, ◌∙◌}
+use mathlib.Core.Path.{◌≡◌, refl, sym, ap, subst, ◌∙◌}
 use mathlib.Core.Bool.{Bool, true, false, cond, ◌||◌, true≢false}
 use mathlib.Core.List.{List}
 use Rattle.std.specs.Prelude.{Result, Ok, Err}
@@ -17,11 +17,11 @@ use Rattle.benchlog.specs.declared.Fault.TheVariants.{NoSuchKind, OutOfRange}
 use Rattle.benchlog.specs.declared.Numeral.{Numeral}
 use Rattle.benchlog.specs.declared.Reading.{Reading}
 use Rattle.benchlog.specs.declared.Refused.{Refused}
-use Rattle.benchlog.specs.Entries.{within, argument_at, width_at, data_limit, read_to, then, pulse_at, veto_at, read_at, write_at, kind_at, kind_and_arguments_at, of_entry_at, entry_at}
+use Rattle.benchlog.specs.Entries.{within, argument_at, width_at, data_limit, read_to, then, pulse_at, veto_at, read_at, write_at, kind_at, of_entry, by_kind, entry_at}
 use Rattle.benchlog.specs.Lines.{Arguments, nothing_more, argument, arguments_of, ArgumentFault, in_number, outside, further, EntryFault, in_kind, no_such_kind, in_arguments}
 use Rattle.benchlog.specs.Number.{numeral, refused, number_at}
 use Rattle.benchlog.proofs.ExactNumerals.{same_fault, same_value, same_next, number_at_fault, refused_number, read_not_refused}
-use Rattle.benchlog.proofs.Places.{NumeralPlace, argument_place}
+use Rattle.benchlog.proofs.Places.{NumeralPlace, number_place, argument_place}
 
 entry_not_refused : {E : Type 0} {x : Result Reading E} {fault : E} {r : Reading} → x ≡ Err fault → x ≡ Ok r → ⊥
 entry_not_refused p q = let z : ◌≡◌ {A = ℕ} 0 1 = cc in omega arith
@@ -239,8 +239,11 @@ module _ (log : List ℕ) (at : ℕ) where
         go f (no_such_kind {kind = k} q i) = let s : k ≡ kind = same_value q e in absurd (omega arith)
         go f (in_arguments {kind = k} {next = n} q i l) = let s : k ≡ kind = same_value q e in let t : n ≡ next = same_next q e in (kind_both log next kind h).refused f (rw (s, t) at l)
 
-  inside_both : Both (EntryFault log at) (kind_and_arguments_at log at)
-  unfolding kind_and_arguments_at
+  -- the kind, and what follows it
+  abbrev inside : Result Reading Fault
+  inside = then (number_at log at) (λ kind p. kind_at log kind p)
+
+  inside_both : Both (EntryFault log at) inside
   inside_both = go (number_at log at) refl
     where
       of : (kind next : ℕ) → number_at log at ≡ numeral kind next → (t : Bool) → leb kind 7 ≡ t → Both (EntryFault log at) (kind_at log kind next)
@@ -251,12 +254,20 @@ module _ (log : List ℕ) (at : ℕ) where
       go (Err r) e = kind_refused r.fault r.place e
       go (Ok n) e = of n.value n.next e (leb n.value 7) refl
 
-  -- a fault and a reading inside the entry are those of the entry
-  fault_inside : (fault : Fault) → entry_at log at ≡ refused fault at ↔ kind_and_arguments_at log at ≡ Err fault
+  -- the entry is what is inside it, at the place that was given
+  entry_is : entry_at log at ≡ of_entry at inside
   unfolding entry_at
-  fault_inside fault = (go (kind_and_arguments_at log at), λ e. rw e)
+  entry_is = go (number_at log at) (number_place log at)
     where
-      go : (r : Result Reading Fault) → of_entry_at at r ≡ refused fault at → r ≡ Err fault
+      go : (n : Result Numeral Refused) → NumeralPlace log at n → by_kind log at n ≡ of_entry at (then n (λ kind p. kind_at log kind p))
+      go (Err r) p = rw (← p) refl
+      go (Ok n) p = refl
+
+  -- a fault of it is one inside it
+  fault_inside : (fault : Fault) → entry_at log at ≡ refused fault at ↔ inside ≡ Err fault
+  fault_inside fault = ((λ e. go inside (sym entry_is ∙ e)), λ e. entry_is ∙ ap (of_entry at) e)
+    where
+      go : (r : Result Reading Fault) → of_entry at r ≡ refused fault at → r ≡ Err fault
       go (Ok r) e = absurd (entry_not_refused e refl)
       go (Err f) e = let d : f ≡ fault = same_fault refl e in cc
 
@@ -269,9 +280,8 @@ module _ (log : List ℕ) (at : ℕ) where
 
   -- an entry is read exactly when there is no fault
   pub entry_read_is : ((fault : Fault) → EntryFault log at fault → ⊥) ↔ ((r : Reading) × (entry_at log at ≡ Ok r))
-  unfolding entry_at
-  entry_read_is = ((λ none. go (kind_and_arguments_at log at) refl none), λ r f l. absurd (entry_not_refused ((entry_fault_is f).1 l) r.1))
+  entry_read_is = ((λ none. go inside refl none), λ r f l. absurd (entry_not_refused ((entry_fault_is f).1 l) r.1))
     where
-      go : (r : Result Reading Fault) → kind_and_arguments_at log at ≡ r → ((fault : Fault) → EntryFault log at fault → ⊥) → (x : Reading) × (of_entry_at at r ≡ Ok x)
-      go (Ok r) q none = (r, refl)
+      go : (x : Result Reading Fault) → inside ≡ x → ((fault : Fault) → EntryFault log at fault → ⊥) → (r : Reading) × (entry_at log at ≡ Ok r)
+      go (Ok r) q none = (r, entry_is ∙ ap (of_entry at) q)
       go (Err fault) q none = absurd (none fault (inside_both.refuses fault q))

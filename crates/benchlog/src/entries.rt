@@ -1,6 +1,6 @@
 // An entry of the bench log: its kind, then its arguments, each looked at as soon as it is read.
 ghost use Rattle.std.specs.Prelude.{◌≡◌};
-ghost use Rattle.benchlog.specs.Entries.{argument_at, width_at, data_limit, read_to, veto_at, pulse_at, read_at, write_at, kind_at, kind_and_arguments_at, entry_at};
+ghost use Rattle.benchlog.specs.Entries.{argument_at, width_at, data_limit, read_to, veto_at, pulse_at, read_at, write_at, kind_at, entry_at};
 
 use crate::numbers::read_number;
 use crate::{Entry, Fault, Numeral, Reading, Refused};
@@ -113,19 +113,11 @@ fn of_kind(log: &[u8], kind: u32, p: usize) -> Result<Reading, Fault>
     }
 }
 
-// An entry's kind, and what follows it.
-#[tactic(auto, unfolding(crate::specs::Entries::kind_and_arguments_at))]
-fn entry(log: &[u8], at: usize) -> Result<Reading, Fault>
-    ensures { result ≡ kind_and_arguments_at log.now at }
-{
-    let kind = read_number(log, at)?;
-    of_kind(log, kind.value, kind.next)
-}
-
-// The entry at a place.
+// The entry at a place: its kind, and what follows it.
 #[tactic(auto, unfolding(crate::specs::Entries::entry_at))]
 pub fn read_entry(log: &[u8], at: usize) -> Result<Reading, Refused>
     ensures { result ≡ entry_at log.now at }
 {
-    entry(log, at).map_err(|fault| fault.at(at))
+    let kind = read_number(log, at)?;
+    of_kind(log, kind.value, kind.next).map_err(|fault| fault.at(at))
 }

@@ -10,7 +10,7 @@ use Rattle.benchlog.specs.declared.Reading.{Reading}
 use Rattle.benchlog.specs.declared.Refused as refusal
 use Rattle.std.specs.Prelude.{Result, Ok, Err}
 use Rattle.benchlog.specs.Number.{refused, number_at}
-use Rattle.benchlog.specs.Entries.{kind_and_arguments_at, entry_at}
+use Rattle.benchlog.specs.Entries.{entry_at}
 use Rattle.benchlog.specs.Faults.{fault_number}
 use Rattle.benchlog.specs.Fields.{fields_of}
 use Rattle.benchlog.proofs.Places.{picked, ReadingPlace, entry_place}
@@ -54,7 +54,7 @@ enough (suc k) (suc j) bytes n memory p q =
 -- ---- where no entry can be read
 -- of no bytes nothing is read but that the log ends
 none : (bytes : List ℕ) (f : Fault) (p : ℕ) → entry_at bytes 0 ≡ refused f p → eqb (fault_number f) (fault_number Ends) ≡ false → length bytes ≡ 0 → ⊥
-unfolding entry_at kind_and_arguments_at number_at
+unfolding entry_at number_at
 none [] f p e t z = eqb-false (fault_number f) (fault_number Ends) t (sym (ap (λ (r : Result Reading refusal.Refused). (fields_of r).answer) e))
 none (b ∷ bs) f p e t z = absurd (omega arith)
 

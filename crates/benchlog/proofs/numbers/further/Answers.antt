@@ -1,12 +1,9 @@
 use Prim.Native.Nat.{◌-◌}
 use mathlib.Core.Path.{◌∙◌}
 use native.Mathlib.Omega.{arith}
-use Rattle.benchlog.proofs.Weights.{start, no_next, product_fits, weight_fits, next_last, next_more, ended, ended_room, ended_below}
+use Rattle.benchlog.proofs.Weights.{no_next, product_fits, weight_fits, next_last, next_more}
 use borrow.Author.Rules.{rules}
 use Rattle.benchlog.proofs.numbers.further.Goals as goal
-
-pub loop-g-init : goal.loop-g-init
-loop-g-init c = start _ _ _ c.requires.0 c.requires.1
 
 pub returns-then-log-at : goal.returns-then-log-at
 returns-then-log-at c = rw c.at.ensures (no_next c.loop-g.invariant c.loop-g-test.true c.if-log-at.true)
@@ -28,9 +25,3 @@ overflow_mul-scale c = omega (arith, weight_fits c.loop-g.invariant c.loop-g-tes
 
 pub loop-g-preserved : goal.loop-g-preserved
 loop-g-preserved c = next_more c.loop-g.invariant _ c.loop-g-test.true c.if-log-at.false c.wide-b.ensures.0 c.if-b-le127.false c.wide-b.ensures.1
-
-pub fifth-requires : goal.fifth-requires
-fifth-requires c = (ended_room c.loop-g.invariant c.loop-g-test.false, ended_below c.loop-g.invariant c.loop-g-test.false)
-
-pub returns : goal.returns
-returns c = c.fifth.ensures ∙ ended c.loop-g.invariant c.loop-g-test.false
