@@ -67,14 +67,25 @@ fn counts_fit(settings: Settings, event: Event) -> bool
 fn count_fits(short: bool, bit: u32, count: u32) -> bool
     ensures { result ≡ count_fits short bit count }
 {
-    (!short || count < 67108864) && is_zero_if_disabled(bit, count)
+    // tests one after the other, here and below: as one expression of `&&` and `||` each they cost the replay's inner
+    // loop 15 % more instructions
+    if !short {
+        return is_zero_if_disabled(bit, count);
+    }
+    if count >= 67108864 {
+        return false;
+    }
+    is_zero_if_disabled(bit, count)
 }
 
 // Whether a disabled channel's count is 0.
 fn is_zero_if_disabled(bit: u32, count: u32) -> bool
     ensures { result ≡ zero_if_disabled bit count }
 {
-    bit != 0 || count == 0
+    if bit == 0 {
+        return count == 0;
+    }
+    true
 }
 
 // Writes the words of an event where there is room for them.
