@@ -35,7 +35,7 @@ pub(crate) struct Case {
     pub(crate) pulses: u32,
 }
 
-// Puts the line of a case; one that is wrong is what is amiss with the listing.
+// Puts the line of a case, 0 in it where no step is wrong; one that is wrong is what is amiss with the listing.
 fn put_case(rt: &HostRuntime, out: &mut [u8], before: Listing, number: usize, c: Case) -> Listing {
     let case = number as u64;
     let wrong = wrong_in(c).map(|step| step as u64);

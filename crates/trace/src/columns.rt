@@ -72,7 +72,7 @@ fn numbers<const W: usize, const O: usize, const C: usize, const L: usize, const
     numbers
 }
 
-// The numbers of a V260's line.
+// The numbers of a V260's line; the line of each module has columns of its own (docs/FORMATS.md).
 pub(crate) fn numbers_260(entry: u64, answer: Answer, v: V260, i: Interrupter) -> [u64; 41]
     ensures { result ≡ numbers260 entry answer v i }
 {
