@@ -3,6 +3,7 @@ ghost use Rattle.std.specs.Prelude.{◌≡◌};
 ghost use Rattle.scaler.specs.declared.Order.TheVariants as order;
 ghost use Rattle.scaler.specs.Calls.{access_of, pulses_of, test_of, order_of, trigger_of, step_of};
 
+use crate::channel::Channel;
 use crate::counting::{pulse_often, test_pulse};
 use crate::module::{Outcome, Scaler};
 use crate::registers::{obeyed, perform};
@@ -20,7 +21,12 @@ pub fn access<M: Scaler>(s: M, i: Interrupter, a: Access) -> Outcome<M>
     }
     match look_up(M::table(), a) {
         Err(why) => Outcome::refused(why, s, i),
-        Ok(to) => perform(to, s, i, a),
+        Ok(to) => {
+            let channel = Channel {
+                number: to.place as usize,
+            };
+            perform(to.row, channel, s, i, a)
+        }
     }
 }
 
@@ -34,7 +40,10 @@ pub fn pulses<M: Scaler>(s: M, i: Interrupter, channel: u32, n: u32) -> Outcome<
     if channel > 15 {
         return Outcome::refused(Refusal::NoChannel, s, i);
     }
-    pulse_often(s, i, channel as usize, n)
+    let channel = Channel {
+        number: channel as usize,
+    };
+    pulse_often(s, i, channel, n)
 }
 
 // A pulse on the TEST line.

@@ -1,10 +1,11 @@
 // What pulses do: a channel counts, those joined to it count its carries, and a watched bit that rises requests.
-ghost use Rattle.std.specs.Prelude.{◌≡◌, ◌<◌};
+ghost use Rattle.std.specs.Prelude.{◌≡◌};
 ghost use Rattle.count.specs.Counter.{iterate};
 ghost use Rattle.scaler.specs.Outcomes.{done};
 ghost use Rattle.scaler.specs.Calls.{rise_of, rose, counted, pulse, tested};
 
 use crate::Scales;
+use crate::channel::Channel;
 use crate::module::{Outcome, Scaler};
 use bus::Refusal;
 use bus::interrupter::Interrupter;
@@ -24,7 +25,7 @@ fn any_rose<M: Scaler>(s: M, before: [u32; 16], after: [u32; 16]) -> bool
     ensures { result ≡ rose M.own s before after }
 {
     for k in 0..16 {
-        if did_rise(s.watched(k), before[k], after[k]) {
+        if did_rise(s.watched(Channel { number: k }), before[k], after[k]) {
             return true;
         }
     }
@@ -45,9 +46,8 @@ fn count_to<M: Scaler>(after: [u32; 16], s: M, i: Interrupter) -> Outcome<M>
 }
 
 // One pulse on a channel's input.
-fn pulse_once<M: Scaler>(o: Outcome<M>, channel: usize) -> Outcome<M>
-    requires { channel < 16 }
-    ensures { result ≡ pulse M.own channel o }
+fn pulse_once<M: Scaler>(o: Outcome<M>, channel: Channel) -> Outcome<M>
+    ensures { result ≡ pulse M.own channel.number o }
 {
     let s = o.state;
     if s.scales().is_inhibited() || s.is_ignored(channel) {
@@ -57,9 +57,8 @@ fn pulse_once<M: Scaler>(o: Outcome<M>, channel: usize) -> Outcome<M>
 }
 
 // That many pulses on a channel's input, one after the other.
-pub(crate) fn pulse_often<M: Scaler>(s: M, i: Interrupter, channel: usize, n: u32) -> Outcome<M>
-    requires { channel < 16 }
-    ensures { result ≡ iterate n (pulse M.own channel) (done 0 s i) }
+pub(crate) fn pulse_often<M: Scaler>(s: M, i: Interrupter, channel: Channel, n: u32) -> Outcome<M>
+    ensures { result ≡ iterate n (pulse M.own channel.number) (done 0 s i) }
 {
     let mut o = Outcome::done(0, s, i);
     for _ in 0..n {

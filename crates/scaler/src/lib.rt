@@ -9,6 +9,7 @@ use bus::Access;
 use bus::interrupter::Interrupter;
 
 pub mod by_value;
+pub mod channel;
 mod counting;
 pub mod in_place;
 pub mod module;

@@ -1,12 +1,13 @@
 // What a module of sixteen scales is, and what its calls give.
-ghost use Rattle.std.specs.Prelude.{◌≡◌, ◌<◌, true, not};
+ghost use Rattle.std.specs.Prelude.{◌≡◌, true, not};
 ghost use Rattle.bus.proofs.Places.{narrow};
 ghost use Rattle.scaler.specs.Outcomes.{refused, done, lent_of};
 ghost use Rattle.scaler.specs.Module.{Module};
 
 use crate::Scales;
+use crate::channel::Channel;
 use bus::interrupter::Interrupter;
-use bus::table::{Reached, Row};
+use bus::table::Row;
 use bus::{Access, Answer, Refusal};
 use count::Width;
 
@@ -77,10 +78,9 @@ pub trait Scaler: Copy {
         ensures { result.now ≡ own.registers };
 
     // An access at a row that the other module has otherwise.
-    fn register(self, i: Interrupter, to: Reached, a: Access) -> Outcome<Self>
-        requires place { to.place < 16 }
+    fn register(self, i: Interrupter, row: usize, channel: Channel, a: Access) -> Outcome<Self>
         requires formed { own.formed self i ≡ true }
-        ensures { result ≡ own.register to.row to.place self i a };
+        ensures { result ≡ own.register row channel.number self i a };
 
     // Whether the module and the interrupter are well formed.
     fn is_formed(self, i: Interrupter) -> bool
@@ -95,19 +95,16 @@ pub trait Scaler: Copy {
         ensures { result ≡ own.width };
 
     // Whether the input of a channel does nothing.
-    fn is_ignored(self, channel: usize) -> bool
-        requires { channel < 16 }
-        ensures { result ≡ own.ignores self channel };
+    fn is_ignored(self, channel: Channel) -> bool
+        ensures { result ≡ own.ignores self channel.number };
 
     // The counts after a pulse that is admitted to a channel.
-    fn counts_after(self, channel: usize) -> [u32; 16]
-        requires { channel < 16 }
-        ensures { result ≡ own.pulsed self channel };
+    fn counts_after(self, channel: Channel) -> [u32; 16]
+        ensures { result ≡ own.pulsed self channel.number };
 
     // The bit of a channel that is watched, if one is.
-    fn watched(self, channel: usize) -> Option<u32>
-        requires { channel < 16 }
-        ensures { result ≡ own.watched self channel };
+    fn watched(self, channel: Channel) -> Option<u32>
+        ensures { result ≡ own.watched self channel.number };
 
     // A row of its table has no more than sixteen places.
     ghost sixteen_places: { narrow (λ n. 16) 0 own.registers ≡ true };

@@ -1,8 +1,9 @@
 // What an access does at each row of the table.
-ghost use Rattle.std.specs.Prelude.{◌≡◌, ◌<◌, true};
+ghost use Rattle.std.specs.Prelude.{◌≡◌, true};
 ghost use Rattle.scaler.specs.Calls.{obey, lower_at, performed};
 
 use crate::Order;
+use crate::channel::Channel;
 use crate::counting::test_pulse;
 use crate::module::{Outcome, Scaler};
 use crate::rows::{
@@ -11,7 +12,6 @@ use crate::rows::{
 };
 use bus::Access;
 use bus::interrupter::Interrupter;
-use bus::table::Reached;
 
 // What a command address, a line or the button does.
 pub(crate) fn obeyed<M: Scaler>(order: Order, s: M, i: Interrupter) -> Outcome<M>
@@ -22,29 +22,33 @@ pub(crate) fn obeyed<M: Scaler>(order: Order, s: M, i: Interrupter) -> Outcome<M
     Outcome::done(0, state, now.interrupter)
 }
 
-// An access of a row and a place in it.
-pub(crate) fn perform<M: Scaler>(to: Reached, s: M, i: Interrupter, a: Access) -> Outcome<M>
-    requires place { to.place < 16 }
+// An access of a row and a place in it, which is a channel's.
+pub(crate) fn perform<M: Scaler>(
+    row: usize,
+    channel: Channel,
+    s: M,
+    i: Interrupter,
+    a: Access,
+) -> Outcome<M>
     requires formed { M.own.formed s i ≡ true }
-    ensures { result ≡ performed M.own to.row to.place s i a }
+    ensures { result ≡ performed M.own row channel.number s i a }
 {
-    match to.row {
+    match row {
         SCALE_INCREASE => test_pulse(s, i),
         VETO_RESET => obeyed(Order::VetoReset, s, i),
         VETO_SET => obeyed(Order::VetoSet, s, i),
         CLEAR_ACCESS => obeyed(Order::ClearAccess, s, i),
-        LOWER_HALVES => lower_half(to.place as usize, s, i),
+        LOWER_HALVES => lower_half(channel, s, i),
         CLEAR_INTERRUPT => obeyed(Order::RemoveRequest, s, i),
         DISABLE_INTERRUPT => obeyed(Order::Disable, s, i),
         ENABLE_INTERRUPT => obeyed(Order::Enable, s, i),
-        _ => s.register(i, to, a),
+        _ => s.register(i, row, channel, a),
     }
 }
 
 // The lower half of a counter.
-fn lower_half<M: Scaler>(k: usize, s: M, i: Interrupter) -> Outcome<M>
-    requires { k < 16 }
-    ensures { result ≡ lower_at M.own k s i }
+fn lower_half<M: Scaler>(channel: Channel, s: M, i: Interrupter) -> Outcome<M>
+    ensures { result ≡ lower_at M.own channel.number s i }
 {
-    Outcome::done(s.scales().latches[k] % 65536, s, i)
+    Outcome::done(s.scales().latches[channel.number] % 65536, s, i)
 }

@@ -6,10 +6,11 @@ ghost use Rattle.v260.specs.Outcomes.{fits, start_of};
 ghost use Rattle.v260.specs.Module.{v260};
 
 use bus::interrupter::Interrupter;
-use bus::table::{Directions, Reached, Row, Widths};
+use bus::table::{Directions, Row, Widths};
 use bus::{Access, Refusal};
 use count::Width;
 use scaler::Scales;
+use scaler::channel::Channel;
 use scaler::module::Scaler;
 pub use scaler::{by_value, in_place};
 
@@ -74,8 +75,8 @@ impl Scaler for V260 {
         &TABLE
     }
 
-    fn register(self, i: Interrupter, to: Reached, a: Access) -> Outcome {
-        registers::perform(to, self, i, a)
+    fn register(self, i: Interrupter, row: usize, channel: Channel, a: Access) -> Outcome {
+        registers::perform(row, channel, self, i, a)
     }
 
     fn is_formed(self, i: Interrupter) -> bool {
@@ -90,15 +91,15 @@ impl Scaler for V260 {
         Width::Bits24
     }
 
-    fn is_ignored(self, channel: usize) -> bool {
+    fn is_ignored(self, channel: Channel) -> bool {
         self.switches.is_joined(channel)
     }
 
-    fn counts_after(self, channel: usize) -> [u32; 16] {
+    fn counts_after(self, channel: Channel) -> [u32; 16] {
         self.switches.counts_after(self.scales.counts, channel)
     }
 
-    fn watched(self, channel: usize) -> Option<u32> {
+    fn watched(self, channel: Channel) -> Option<u32> {
         self.switches.watched(channel)
     }
 

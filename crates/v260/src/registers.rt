@@ -5,19 +5,19 @@ ghost use Rattle.v260.specs.Registers.{counter_word, counter_at, register};
 
 use crate::{Outcome, V260};
 use bus::interrupter::Interrupter;
-use bus::table::Reached;
 use bus::{Access, Refusal};
 use scaler::Scales;
+use scaler::channel::Channel;
 use scaler::rows::{LEVEL_REGISTER, SCALE_COUNTERS, STATUS, VECTOR_REGISTER};
 
-// An access of a row and a place in it.
-pub(crate) fn perform(to: Reached, s: V260, i: Interrupter, a: Access) -> Outcome
-    requires { (to.place < 16) × (fits s.scales.counts ≡ true) }
-    ensures { result ≡ register to.row to.place s i a }
+// An access of a row and a place in it, which is a channel's.
+pub(crate) fn perform(row: usize, channel: Channel, s: V260, i: Interrupter, a: Access) -> Outcome
+    requires { fits s.scales.counts ≡ true }
+    ensures { result ≡ register row channel.number s i a }
 {
-    match to.row {
+    match row {
         STATUS => Outcome::done(u32::from(s.switches.interrupts), s, i),
-        SCALE_COUNTERS => counter(to.place as usize, s, i, a.width),
+        SCALE_COUNTERS => counter(channel, s, i, a.width),
         LEVEL_REGISTER => Outcome::done(i.level, s, i),
         VECTOR_REGISTER => Outcome::done(0, s, i.vectored((a.data % 256) as u8)),
         _ => Outcome::refused(Refusal::NotInTable, s, i),
@@ -34,16 +34,16 @@ fn counter_word(inhibited: bool, count: u32) -> u32
 }
 
 // A counter read at its own offset.
-fn counter(k: usize, s: V260, i: Interrupter, width: u32) -> Outcome
-    requires { (k < 16) × (fits s.scales.counts ≡ true) }
-    ensures { result ≡ counter_at k s i width }
+fn counter(channel: Channel, s: V260, i: Interrupter, width: u32) -> Outcome
+    requires { fits s.scales.counts ≡ true }
+    ensures { result ≡ counter_at channel.number s i width }
 {
-    let word = counter_word(s.scales.is_inhibited(), s.scales.counts[k]);
+    let word = counter_word(s.scales.is_inhibited(), s.scales.counts[channel.number]);
     if width == 32 {
         return Outcome::done(word, s, i);
     }
     let mut latches = s.scales.latches;
-    latches[k] = word;
+    latches[channel.number] = word;
     let scales = Scales {
         latches,
         ..s.scales

@@ -7,9 +7,10 @@ ghost use Rattle.v560.specs.Module.{v560};
 
 use bus::Access;
 use bus::interrupter::Interrupter;
-use bus::table::{Directions, Reached, Row, Widths};
+use bus::table::{Directions, Row, Widths};
 use count::Width;
 use scaler::Scales;
+use scaler::channel::Channel;
 use scaler::module::Scaler;
 pub use scaler::{by_value, in_place};
 
@@ -63,8 +64,8 @@ impl Scaler for V560 {
         &TABLE
     }
 
-    fn register(self, i: Interrupter, to: Reached, a: Access) -> Outcome {
-        registers::perform(to, self, i, a)
+    fn register(self, i: Interrupter, row: usize, channel: Channel, a: Access) -> Outcome {
+        registers::perform(row, channel, self, i, a)
     }
 
     fn is_formed(self, i: Interrupter) -> bool {
@@ -79,15 +80,15 @@ impl Scaler for V560 {
         Width::Bits32
     }
 
-    fn is_ignored(self, channel: usize) -> bool {
+    fn is_ignored(self, channel: Channel) -> bool {
         counting::is_high(self.joined, channel)
     }
 
-    fn counts_after(self, channel: usize) -> [u32; 16] {
+    fn counts_after(self, channel: Channel) -> [u32; 16] {
         counting::counts_after(self.joined, self.scales.counts, channel)
     }
 
-    fn watched(self, channel: usize) -> Option<u32> {
+    fn watched(self, channel: Channel) -> Option<u32> {
         counting::is_watched(self.joined, self.sections, channel).then_some(31)
     }
 

@@ -4,19 +4,19 @@ ghost use Rattle.v560.specs.Registers.{level_word, counter_at, request_for, leve
 
 use crate::{Outcome, V560};
 use bus::interrupter::Interrupter;
-use bus::table::Reached;
 use bus::{Access, Refusal};
 use scaler::Scales;
+use scaler::channel::Channel;
 use scaler::rows::{LEVEL_REGISTER, REQUEST_REGISTER, SCALE_COUNTERS, STATUS, VECTOR_REGISTER};
 
-// An access of a row and a place in it.
-pub(crate) fn perform(to: Reached, s: V560, i: Interrupter, a: Access) -> Outcome
-    requires { (to.place < 16) × (i.level < 8) }
-    ensures { result ≡ register to.row to.place s i a }
+// An access of a row and a place in it, which is a channel's.
+pub(crate) fn perform(row: usize, channel: Channel, s: V560, i: Interrupter, a: Access) -> Outcome
+    requires { i.level < 8 }
+    ensures { result ≡ register row channel.number s i a }
 {
-    match to.row {
+    match row {
         STATUS => Outcome::done(65280 + u32::from(s.joined), s, i),
-        SCALE_COUNTERS => counter(to.place as usize, s, i, a.width),
+        SCALE_COUNTERS => counter(channel, s, i, a.width),
         REQUEST_REGISTER => request(s, i, a),
         LEVEL_REGISTER => level(s, i, a),
         VECTOR_REGISTER => vector(s, i, a),
@@ -25,17 +25,16 @@ pub(crate) fn perform(to: Reached, s: V560, i: Interrupter, a: Access) -> Outcom
 }
 
 // A counter read at its own offset.
-fn counter(k: usize, s: V560, i: Interrupter, width: u32) -> Outcome
-    requires { k < 16 }
-    ensures { result ≡ counter_at k s i width }
+fn counter(channel: Channel, s: V560, i: Interrupter, width: u32) -> Outcome
+    ensures { result ≡ counter_at channel.number s i width }
 {
     let latch = !s.scales.is_inhibited();
-    let word = s.scales.counts[k];
+    let word = s.scales.counts[channel.number];
     if width == 32 {
         return Outcome::done(word, V560 { latch, ..s }, i);
     }
     let mut latches = s.scales.latches;
-    latches[k] = word;
+    latches[channel.number] = word;
     let scales = Scales {
         latches,
         ..s.scales

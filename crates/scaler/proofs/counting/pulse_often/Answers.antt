@@ -5,11 +5,11 @@ use Rattle.scaler.specs.Calls.{pulse}
 use Rattle.scaler.proofs.counting.pulse_often.Goals as goal
 
 pub loop-init : goal.loop-init
-loop-init g c = sym (iterate_none (pulse g.M.Scaler.own c.args.channel) _)
+loop-init g c = sym (iterate_none (pulse g.M.Scaler.own c.args.channel.number) _)
 
 pub loop-preserved : goal.loop-preserved
 loop-preserved g c =
-    let f = pulse g.M.Scaler.own c.args.channel in
+    let f = pulse g.M.Scaler.own c.args.channel.number in
     c.pulse_once-o.ensures ∙ ap f c.loop.invariant ∙ sym (iterate_more f _ c.loop.counter)
 
 pub returns : goal.returns

@@ -5,4 +5,4 @@ use Rattle.scaler.specs.Calls.{pulse}
 use Rattle.scaler.proofs.counting.pulse_often.Given as goal
 
 abbrev pub invariant-loop : goal.invariant-loop
-invariant-loop g l = l.o ≡ iterate l.counter (pulse g.M.Scaler.own l.channel) l.initial.o
+invariant-loop g l = l.o ≡ iterate l.counter (pulse g.M.Scaler.own l.channel.number) l.initial.o

@@ -4,4 +4,4 @@ use Rattle.v260.proofs.Fitting.{fits_at}
 use Rattle.v260.proofs.registers.counter.Goals as goal
 
 pub counter_word-word-requires : goal.counter_word-word-requires
-counter_word-word-requires c = fits_at c.args.s.scales.counts c.args.k c.requires.1 (search rules)
+counter_word-word-requires c = fits_at c.args.s.scales.counts c.args.channel.number c.requires (search rules)
