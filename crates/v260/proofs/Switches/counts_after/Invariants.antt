@@ -7,4 +7,4 @@ use Rattle.v260.specs.Counting.{after, is_joined, pulsed}
 use Rattle.v260.proofs.Switches.counts_after.Given as goal
 
 abbrev pub invariant-loop : goal.invariant-loop
-invariant-loop l = (length l.counts ≡ 16) × (clocked 24 (λ k. is_joined l.self (after k)) after (16 - l.counter) l.k.number l.counts ≡ pulsed l.self l.initial.counts l.fn.channel.number)
+invariant-loop l = (length l.counts ≡ 16) × (clocked 24 (λ k. is_joined l.self (after k)) after (16 - l.counter) l.k.number l.counts ≡ pulsed l.self l.initial.counts l.initial.k.number)
