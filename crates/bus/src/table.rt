@@ -20,14 +20,14 @@ pub enum Directions {
     ReadWrite,
 }
 
-// A row: the first and the last offset, of which every fourth is meant, the widths and the directions.
+// A row: the first and the last offset, of which every fourth is meant, the widths, the directions, and its register.
 #[derive(Clone, Copy, PartialEq, Eq, Debug)]
-pub struct Row(pub u32, pub u32, pub Widths, pub Directions);
+pub struct Row<R>(pub u32, pub u32, pub Widths, pub Directions, pub R);
 
-// What an access reaches: a row of the table, by its place there, and a place in the row.
+// What an access reaches: a register, and a place in it.
 #[derive(Clone, Copy, PartialEq, Eq, Debug)]
-pub struct Reached {
-    pub row: usize,
+pub struct Reached<R> {
+    pub register: R,
     pub place: u32,
 }
 
@@ -57,7 +57,7 @@ impl Directions {
     }
 }
 
-impl Row {
+impl<R: Copy> Row<R> {
     // Whether a row has an offset.
     fn has(self, offset: u32) -> bool
         ensures { result ≡ covers self offset }
@@ -66,9 +66,9 @@ impl Row {
     }
 
     // What an access gets of the row that has its offset.
-    fn reached(self, row: usize, a: Access) -> Result<Reached, Refusal>
+    fn reached(self, a: Access) -> Result<Reached<R>, Refusal>
         requires { self.0 ≤ a.offset }
-        ensures { result ≡ reach row self a }
+        ensures { result ≡ reach self a }
     {
         if !self.2.take(a.width) {
             return Err(Refusal::WrongWidth);
@@ -77,19 +77,19 @@ impl Row {
             return Err(Refusal::WrongDirection);
         }
         Ok(Reached {
-            row,
+            register: self.4,
             place: (a.offset - self.0) / 4,
         })
     }
 }
 
 // The look-up of an access in a module's table: the first row that has its offset.
-pub fn look_up(rows: &[Row], a: Access) -> Result<Reached, Refusal>
-    ensures { result ≡ look_up 0 rows.now a }
+pub fn look_up<R: Copy>(rows: &[Row<R>], a: Access) -> Result<Reached<R>, Refusal>
+    ensures { result ≡ look_up rows.now a }
 {
-    for (at, row) in rows.iter().enumerate() {
+    for row in rows {
         if row.has(a.offset) {
-            return row.reached(at, a);
+            return row.reached(a);
         }
     }
     Err(Refusal::NotInTable)

@@ -6,14 +6,16 @@ use Rattle.bus.proofs.Look.{here, behind, ended}
 use Rattle.bus.proofs.table.look_up.Goals as goal
 
 pub returns-then-has : goal.returns-then-has
-returns-then-has c =
-    c.reached.ensures ∙ sym (here c.args.rows.now c.loop-at.at c.args.a _ c.loop-at-test.true (sym c.has.ensures ∙ c.if-has.true)) ∙ c.loop-at.invariant
+returns-then-has g c =
+    let l = c.loop-row in
+    c.reached.ensures ∙ sym (here c.args.rows.now l.row-index c.args.a c.row-item.result c.loop-row-test.true c.row-item.is (sym c.has.ensures ∙ c.if-has.true)) ∙ l.invariant
 
-pub loop-at-preserved : goal.loop-at-preserved
-loop-at-preserved c =
-    simp unary_clauses (sym (behind c.args.rows.now c.loop-at.at c.args.a _ c.loop-at-test.true (sym c.has.ensures ∙ c.if-has.false)) ∙ c.loop-at.invariant)
+pub loop-row-preserved : goal.loop-row-preserved
+loop-row-preserved g c =
+    let l = c.loop-row in
+    simp unary_clauses (sym (behind c.args.rows.now l.row-index c.args.a c.row-item.result c.loop-row-test.true c.row-item.is (sym c.has.ensures ∙ c.if-has.false)) ∙ l.invariant)
 
 pub returns : goal.returns
-returns c =
-    let h = c.loop-at-test.false in
-    sym (ended c.args.rows.now c.loop-at.at c.args.a (omega arith)) ∙ c.loop-at.invariant
+returns g c =
+    let h = c.loop-row-test.false in
+    sym (ended c.args.rows.now c.loop-row.row-index c.args.a (omega arith)) ∙ c.loop-row.invariant

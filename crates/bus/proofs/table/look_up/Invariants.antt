@@ -3,5 +3,5 @@ use Rattle.std.proofs.Common.{◌≡◌, drop}
 use Rattle.bus.specs.Table.{look_up}
 use Rattle.bus.proofs.table.look_up.Given as goal
 
-abbrev pub invariant-loop-at : goal.invariant-loop-at
-invariant-loop-at l = look_up l.at (drop l.at l.rows) l.a ≡ look_up 0 l.rows l.a
+abbrev pub invariant-loop-row : goal.invariant-loop-row
+invariant-loop-row g l = look_up (drop l.row-index l.rows) l.a ≡ look_up l.rows l.a
