@@ -5,7 +5,6 @@ use mathlib.Core.Path.{◌≡◌, refl}
 use mathlib.Core.Bool.{Bool, true, false, cond, ◌||◌, not}
 use native.Mathlib.Omega.{arith}
 use borrow.Author.Tests.{eq-eqb}
-use lib.Dec.{eqb}
 use lib.ListN.{length}
 use Rattle.std.specs.Prelude.{Result, Ok, Err}
 use Rattle.bus.specs.declared.Access.{Access}
@@ -16,43 +15,49 @@ use Rattle.bus.proofs.Places.{Within, places_narrow}
 use Rattle.meb.specs.Ring.{Memory}
 use Rattle.v830.specs.declared.Call.{Call}
 use Rattle.v830.specs.declared.Call.TheVariants as call
+use Rattle.v830.specs.declared.Register.{Register}
+use Rattle.v830.specs.declared.Register.TheVariants.{MebWindow, Counters, ChannelEnable, Control, ControlBitSet, ControlBitClear, SoftwareReset, SoftwareClear, SoftwareTrigger, TriggerCounter, MebEventNumber}
 use Rattle.v830.specs.declared.V830.{V830}
 use Rattle.v830.specs.declared.deeds.Deed.{Deed}
-use Rattle.v830.specs.declared.deeds.Deed.TheVariants.{Refuse, ReadCounter}
-use Rattle.v830.specs.Registers.{registers, counters}
+use Rattle.v830.specs.declared.deeds.Deed.TheVariants.{Refuse}
+use Rattle.v830.specs.Registers.{registers}
 use Rattle.v830.specs.Deeds.{deed_at, deed_of, counter_of}
 use Rattle.v830.specs.Calls.{is_lent, is_lent_right}
 
--- so many places has a row at most
-abbrev places : ℕ → ℕ
-places row = cond (eqb row counters) 32 1024
+-- so many places has a register's row at most
+abbrev places : Register → ℕ
+places MebWindow = 1024
+places Counters = 32
+places ChannelEnable = 1024
+places Control = 1024
+places ControlBitSet = 1024
+places ControlBitClear = 1024
+places SoftwareReset = 1024
+places SoftwareClear = 1024
+places SoftwareTrigger = 1024
+places TriggerCounter = 1024
+places MebEventNumber = 1024
 
--- one test of the chain
+-- by the direction
 either : (b : Bool) (d e : Deed) → counter_of d < 32 → counter_of e < 32 → counter_of (cond b d e) < 32
 either true d e x y = x
 either false d e x y = y
 
-counter : (b : Bool) (place : ℕ) (e : Deed) → place < cond b 32 1024 → counter_of e < 32 → counter_of (cond b (ReadCounter place) e) < 32
-counter true place e l y = l
-counter false place e l y = y
+row_narrow : (name : Register) (place : ℕ) (a : Access) → place < places name → counter_of (deed_at name place a) < 32
+row_narrow MebWindow place a l = omega arith
+row_narrow Counters place a l = l
+row_narrow ChannelEnable place a l = either a.write _ _ (omega arith) (omega arith)
+row_narrow Control place a l = either a.write _ _ (omega arith) (omega arith)
+row_narrow ControlBitSet place a l = omega arith
+row_narrow ControlBitClear place a l = omega arith
+row_narrow SoftwareReset place a l = omega arith
+row_narrow SoftwareClear place a l = omega arith
+row_narrow SoftwareTrigger place a l = omega arith
+row_narrow TriggerCounter place a l = omega arith
+row_narrow MebEventNumber place a l = omega arith
 
-row_narrow : (row place : ℕ) (a : Access) → place < places row → counter_of (deed_at row place a) < 32
-row_narrow row place a l =
-    let none : 0 < 32 = omega arith in
-    either (eqb row 0) _ _ none
-    (counter (eqb row 1) place _ l
-    (either (eqb row 2) _ _ (either a.write _ _ none none)
-    (either (eqb row 3) _ _ (either a.write _ _ none none)
-    (either (eqb row 4) _ _ none
-    (either (eqb row 5) _ _ none
-    (either (eqb row 6) _ _ none
-    (either (eqb row 7) _ _ none
-    (either (eqb row 8) _ _ none
-    (either (eqb row 9) _ _ none
-    (either (eqb row 10) _ _ none none))))))))))
-
-access_narrow : (a : Access) (r : Result Reached Refusal) → Within places r → counter_of (by_table Refuse (λ row place. deed_at row place a) r) < 32
-access_narrow a (Ok to) l = row_narrow to.row to.place a l
+access_narrow : (a : Access) (r : Result (Reached Register) Refusal) → Within places r → counter_of (by_table Refuse (λ name place. deed_at name place a) r) < 32
+access_narrow a (Ok to) l = row_narrow to.register to.place a l
 access_narrow a (Err why) l = omega arith
 
 pub counter_narrow : (c : Call) → counter_of (deed_of c) < 32
@@ -61,7 +66,7 @@ counter_narrow (call.VetoLine on) = omega arith
 counter_narrow call.Test = omega arith
 counter_narrow call.ClearLine = omega arith
 counter_narrow call.TriggerLine = omega arith
-counter_narrow (call.Access a) = access_narrow a (look_up 0 registers a) (places_narrow places 0 registers a refl)
+counter_narrow (call.Access a) = access_narrow a (look_up registers a) (places_narrow places registers a refl)
 counter_narrow call.ManClr = omega arith
 
 -- a call that is lent the module's memory is lent right

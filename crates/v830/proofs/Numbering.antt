@@ -110,10 +110,10 @@ module _ (s : V830) (memory : Memory) where
   deed_answered g ReadTriggers = does _ s memory
   deed_answered g ReadEvents = number_answered g
 
-  -- an access: the number by the table, where the place in a row does not matter
+  -- an access: the number by the table, where the place in a register does not matter
   access_answered : formed s ≡ true → (a : Access) → Answered (call_number s (call.Access a)) (done_by (deed_of (call.Access a)) s memory)
   access_answered g a =
-      each_number (λ n to. Answered n (done_by (by_table Refuse (λ row place. deed_at row place a) to) s memory)) registers a (λ row. deed_number s (deed_at row 0 a)) (λ why. declines why)
+      each_number (λ n to. Answered n (done_by (by_table Refuse (λ name place. deed_at name place a) to) s memory)) registers a (λ name. deed_number s (deed_at name 0 a)) (λ why. declines why)
       (λ place. deed_answered g HandOut)
       (λ place. deed_answered g (ReadCounter place))
       (λ place. by_direction a.write (WriteEnable a.«data») ReadEnable)

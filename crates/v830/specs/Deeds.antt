@@ -1,49 +1,49 @@
 -- What a call is to do, its deed, and what that leaves: lines and registers that do the same have one deed. Assumes
 -- nothing.
-use Rattle.std.specs.Prelude.{ℕ, cond, eqb}
+use Rattle.std.specs.Prelude.{ℕ, cond}
 use Rattle.bus.specs.declared.Access.{Access}
-use Rattle.bus.specs.declared.Refusal.TheVariants.{NotInTable, NoMeaning}
+use Rattle.bus.specs.declared.Refusal.TheVariants.{NoMeaning}
 use Rattle.bus.specs.Table.{look_up, by_table}
 use Rattle.meb.specs.Ring.{Memory}
 use Rattle.v830.specs.declared.Call.{Call}
 use Rattle.v830.specs.declared.Call.TheVariants as call
 use Rattle.v830.specs.declared.deeds.Deed.{Deed}
 use Rattle.v830.specs.declared.deeds.Deed.TheVariants.{Refuse, Pulses, Veto, Test, Clear, Trigger, HandOut, ReadCounter, ReadEnable, WriteEnable, ReadControl, WriteControl, SetBits, ClearBits, Reset, ReadTriggers, ReadEvents}
-use Rattle.v830.specs.declared.deeds.Source.TheVariants.{Line, Register}
+use Rattle.v830.specs.declared.deeds.Source.TheVariants as source
+use Rattle.v830.specs.declared.Register.{Register}
+use Rattle.v830.specs.declared.Register.TheVariants.{MebWindow, Counters, ChannelEnable, Control, ControlBitSet, ControlBitClear, SoftwareReset, SoftwareClear, SoftwareTrigger, TriggerCounter, MebEventNumber}
 use Rattle.v830.specs.declared.V830.{V830}
 use Rattle.v830.specs.State.{vetoed}
 use Rattle.v830.specs.Outcomes.{Step, kept, refused, done}
 use Rattle.v830.specs.Counting.{pulsed, tested, cleared}
 use Rattle.v830.specs.Trigger.{triggered}
-use Rattle.v830.specs.Registers.{registers, meb_window, counters, channel_enable, control_register, control_bit_set, control_bit_clear, software_reset, software_clear, software_trigger, trigger_counter, meb_event_number, handed_out, counter_read, enable_written, controlled, as_written, with_bits, without_bits, reset, event_number}
+use Rattle.v830.specs.Registers.{registers, handed_out, counter_read, enable_written, controlled, as_written, with_bits, without_bits, reset, event_number}
 
--- the deed of an access that reaches a row of the table and a place in it; 1: there is no other row
-abbrev pub deed_at : ℕ → ℕ → Access → Deed
-deed_at row place a =
-    cond (eqb row meb_window) HandOut
-    (cond (eqb row counters) (ReadCounter place)
-    (cond (eqb row channel_enable) (cond a.write (WriteEnable a.«data») ReadEnable)
-    (cond (eqb row control_register) (cond a.write (WriteControl a.«data») ReadControl)
-    (cond (eqb row control_bit_set) (SetBits a.«data»)
-    (cond (eqb row control_bit_clear) (ClearBits a.«data»)
-    (cond (eqb row software_reset) Reset
-    (cond (eqb row software_clear) (Clear Register)
-    (cond (eqb row software_trigger) (Trigger Register)
-    (cond (eqb row trigger_counter) ReadTriggers
-    (cond (eqb row meb_event_number) ReadEvents
-    (Refuse NotInTable)))))))))))
+-- the deed of an access that reaches a register and a place in it
+abbrev pub deed_at : Register → ℕ → Access → Deed
+deed_at MebWindow place a = HandOut
+deed_at Counters place a = ReadCounter place
+deed_at ChannelEnable place a = cond a.write (WriteEnable a.«data») ReadEnable
+deed_at Control place a = cond a.write (WriteControl a.«data») ReadControl
+deed_at ControlBitSet place a = SetBits a.«data»
+deed_at ControlBitClear place a = ClearBits a.«data»
+deed_at SoftwareReset place a = Reset
+deed_at SoftwareClear place a = Clear source.Register
+deed_at SoftwareTrigger place a = Trigger source.Register
+deed_at TriggerCounter place a = ReadTriggers
+deed_at MebEventNumber place a = ReadEvents
 
 -- an access by the table, "looked up at each access"
 abbrev pub deed_of_access : Access → Deed
-deed_of_access a = by_table Refuse (λ row place. deed_at row place a) (look_up 0 registers a)
+deed_of_access a = by_table Refuse (λ name place. deed_at name place a) (look_up registers a)
 
 -- every call; "4 also for MAN CLR on a V830, which has no such button" (document 02, M-100)
 abbrev pub deed_of : Call → Deed
 deed_of (call.Pulses k n) = Pulses k n
 deed_of (call.VetoLine on) = Veto on
 deed_of call.Test = Test
-deed_of call.ClearLine = Clear Line
-deed_of call.TriggerLine = Trigger Line
+deed_of call.ClearLine = Clear source.Line
+deed_of call.TriggerLine = Trigger source.Line
 deed_of (call.Access a) = deed_of_access a
 deed_of call.ManClr = Refuse NoMeaning
 

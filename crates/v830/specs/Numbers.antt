@@ -65,7 +65,7 @@ call_number s (call.VetoLine on) = 0
 call_number s call.Test = 0
 call_number s call.ClearLine = 0
 call_number s call.TriggerLine = trigger_number s
-call_number s (call.Access a) = table_number 0 registers a (λ row. deed_number s (deed_at row 0 a))
+call_number s (call.Access a) = table_number registers a (λ name. deed_number s (deed_at name 0 a))
 call_number s call.ManClr = 4
 
 -- 12: "state record .. malformed"; 10: "lent memory has not the length fixed at the start"

@@ -13,60 +13,28 @@ use Rattle.meb.specs.declared.Handed.{Handed}
 use Rattle.meb.specs.Ring.{Memory}
 use Rattle.meb.specs.Stores.{handed_of}
 use Rattle.v830.specs.declared.Outcome.{Outcome}
+use Rattle.v830.specs.declared.Register.{Register}
+use Rattle.v830.specs.declared.Register.TheVariants.{MebWindow, Counters, ChannelEnable, Control, ControlBitSet, ControlBitClear, SoftwareReset, SoftwareClear, SoftwareTrigger, TriggerCounter, MebEventNumber}
 use Rattle.v830.specs.declared.V830.{V830}
 use Rattle.v830.specs.State.{enabling, vetoed, storing, mode, settings, power_on}
 use Rattle.v830.specs.Outcomes.{refused, done, unless}
 use Rattle.v830.specs.Counting.{restarted}
 
--- section 3.1: first and last offset, of which every fourth is meant, widths, directions
-abbrev pub registers : List Row
+-- section 3.1: first and last offset, of which every fourth is meant, widths, directions, register
+abbrev pub registers : List (Row Register)
 registers =
-    row 0x0000 0x0FFC D32 Read
-    ∷ row 0x1000 0x107C D32 Read
-    ∷ row 0x1100 0x1100 D32 ReadWrite
-    ∷ row 0x1108 0x1108 D16 ReadWrite
-    ∷ row 0x110A 0x110A D16 Write
-    ∷ row 0x110C 0x110C D16 Write
-    ∷ row 0x1120 0x1120 D16 Write
-    ∷ row 0x1122 0x1122 D16 Write
-    ∷ row 0x1124 0x1124 D16 Write
-    ∷ row 0x1128 0x1128 D32 Read
-    ∷ row 0x1134 0x1134 D16 Read
+    row 0x0000 0x0FFC D32 Read MebWindow
+    ∷ row 0x1000 0x107C D32 Read Counters
+    ∷ row 0x1100 0x1100 D32 ReadWrite ChannelEnable
+    ∷ row 0x1108 0x1108 D16 ReadWrite Control
+    ∷ row 0x110A 0x110A D16 Write ControlBitSet
+    ∷ row 0x110C 0x110C D16 Write ControlBitClear
+    ∷ row 0x1120 0x1120 D16 Write SoftwareReset
+    ∷ row 0x1122 0x1122 D16 Write SoftwareClear
+    ∷ row 0x1124 0x1124 D16 Write SoftwareTrigger
+    ∷ row 0x1128 0x1128 D32 Read TriggerCounter
+    ∷ row 0x1134 0x1134 D16 Read MebEventNumber
     ∷ []
-
--- the names of its rows, each the row's place
-abbrev pub meb_window : ℕ
-meb_window = 0
-
-abbrev pub counters : ℕ
-counters = 1
-
-abbrev pub channel_enable : ℕ
-channel_enable = 2
-
-abbrev pub control_register : ℕ
-control_register = 3
-
-abbrev pub control_bit_set : ℕ
-control_bit_set = 4
-
-abbrev pub control_bit_clear : ℕ
-control_bit_clear = 5
-
-abbrev pub software_reset : ℕ
-software_reset = 6
-
-abbrev pub software_clear : ℕ
-software_clear = 7
-
-abbrev pub software_trigger : ℕ
-software_trigger = 8
-
-abbrev pub trigger_counter : ℕ
-trigger_counter = 9
-
-abbrev pub meb_event_number : ℕ
-meb_event_number = 10
 
 -- 5: "V830 memory read, nothing stored"; "A read hands out the oldest word and removes it."
 abbrev pub handed_on : V830 → Option Handed → Outcome

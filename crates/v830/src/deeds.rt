@@ -4,10 +4,7 @@ ghost use Rattle.std.specs.Prelude.{◌≡◌};
 ghost use Rattle.v830.specs.Trigger.{code_of};
 ghost use Rattle.v830.specs.Deeds.{deed_at, deed_of_access, deed_of};
 
-use crate::{
-    CHANNEL_ENABLE, CONTROL, CONTROL_BIT_CLEAR, CONTROL_BIT_SET, COUNTERS, Call, MEB_EVENT_NUMBER,
-    MEB_WINDOW, SOFTWARE_CLEAR, SOFTWARE_RESET, SOFTWARE_TRIGGER, TABLE, TRIGGER_COUNTER,
-};
+use crate::{Call, Register, TABLE};
 use bus::{Access, Refusal};
 
 // Who clears or triggers: the front line, or the register.
@@ -51,26 +48,24 @@ pub enum Deed {
     ReadEvents,
 }
 
-// The deed of an access that reaches a row of the table and a place in it. A row is named by its place in the table, as
-// the look-up gives it, and not by an enum, which would say the table once more.
-fn of_row(row: usize, place: u32, a: Access) -> Deed
-    ensures { result ≡ deed_at row place a }
+// The deed of an access that reaches a register and a place in it.
+fn of_row(register: Register, place: u32, a: Access) -> Deed
+    ensures { result ≡ deed_at register place a }
 {
-    match row {
-        MEB_WINDOW => Deed::HandOut,
-        COUNTERS => Deed::ReadCounter(place),
-        CHANNEL_ENABLE if a.write => Deed::WriteEnable(a.data),
-        CHANNEL_ENABLE => Deed::ReadEnable,
-        CONTROL if a.write => Deed::WriteControl(a.data),
-        CONTROL => Deed::ReadControl,
-        CONTROL_BIT_SET => Deed::SetBits(a.data),
-        CONTROL_BIT_CLEAR => Deed::ClearBits(a.data),
-        SOFTWARE_RESET => Deed::Reset,
-        SOFTWARE_CLEAR => Deed::Clear(Source::Register),
-        SOFTWARE_TRIGGER => Deed::Trigger(Source::Register),
-        TRIGGER_COUNTER => Deed::ReadTriggers,
-        MEB_EVENT_NUMBER => Deed::ReadEvents,
-        _ => Deed::Refuse(Refusal::NotInTable),
+    match register {
+        Register::MebWindow => Deed::HandOut,
+        Register::Counters => Deed::ReadCounter(place),
+        Register::ChannelEnable if a.write => Deed::WriteEnable(a.data),
+        Register::ChannelEnable => Deed::ReadEnable,
+        Register::Control if a.write => Deed::WriteControl(a.data),
+        Register::Control => Deed::ReadControl,
+        Register::ControlBitSet => Deed::SetBits(a.data),
+        Register::ControlBitClear => Deed::ClearBits(a.data),
+        Register::SoftwareReset => Deed::Reset,
+        Register::SoftwareClear => Deed::Clear(Source::Register),
+        Register::SoftwareTrigger => Deed::Trigger(Source::Register),
+        Register::TriggerCounter => Deed::ReadTriggers,
+        Register::MebEventNumber => Deed::ReadEvents,
     }
 }
 
@@ -79,7 +74,7 @@ fn of_access(a: Access) -> Deed
     ensures { result ≡ deed_of_access a }
 {
     match bus::table::look_up(&TABLE, a) {
-        Ok(to) => of_row(to.row, to.place, a),
+        Ok(to) => of_row(to.register, to.place, a),
         Err(why) => Deed::Refuse(why),
     }
 }

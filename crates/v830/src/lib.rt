@@ -5,7 +5,9 @@ ghost use Rattle.std.specs.Prelude.{◌≡◌, length};
 ghost use Rattle.meb.specs.Ring.{lent};
 ghost use Rattle.v830.specs.Outcomes.{refused, done, started};
 
-use bus::table::{Directions, Row, Widths};
+use bus::table::Directions::{Read, ReadWrite, Write};
+use bus::table::Row;
+use bus::table::Widths::{D16, D32};
 use bus::{Access, Answer, Refusal};
 use meb::Store;
 
@@ -18,43 +20,36 @@ mod trigger;
 
 pub use calls::{gate, step, step_formed};
 
+// The registers of section 3.1 of source document 002 that document 01 lists.
+#[derive(Clone, Copy, PartialEq, Eq, Debug)]
+pub(crate) enum Register {
+    MebWindow,
+    Counters,
+    ChannelEnable,
+    Control,
+    ControlBitSet,
+    ControlBitClear,
+    SoftwareReset,
+    SoftwareClear,
+    SoftwareTrigger,
+    TriggerCounter,
+    MebEventNumber,
+}
+
 // Section 3.1 of source document 002, those of its registers that document 01 lists.
-const TABLE: [Row; 11] = [
-    Row(0x0000, 0x0FFC, Widths::D32, Directions::Read),
-    Row(0x1000, 0x107C, Widths::D32, Directions::Read),
-    Row(0x1100, 0x1100, Widths::D32, Directions::ReadWrite),
-    Row(0x1108, 0x1108, Widths::D16, Directions::ReadWrite),
-    Row(0x110A, 0x110A, Widths::D16, Directions::Write),
-    Row(0x110C, 0x110C, Widths::D16, Directions::Write),
-    Row(0x1120, 0x1120, Widths::D16, Directions::Write),
-    Row(0x1122, 0x1122, Widths::D16, Directions::Write),
-    Row(0x1124, 0x1124, Widths::D16, Directions::Write),
-    Row(0x1128, 0x1128, Widths::D32, Directions::Read),
-    Row(0x1134, 0x1134, Widths::D16, Directions::Read),
+const TABLE: [Row<Register>; 11] = [
+    Row(0x0000, 0x0FFC, D32, Read, Register::MebWindow),
+    Row(0x1000, 0x107C, D32, Read, Register::Counters),
+    Row(0x1100, 0x1100, D32, ReadWrite, Register::ChannelEnable),
+    Row(0x1108, 0x1108, D16, ReadWrite, Register::Control),
+    Row(0x110A, 0x110A, D16, Write, Register::ControlBitSet),
+    Row(0x110C, 0x110C, D16, Write, Register::ControlBitClear),
+    Row(0x1120, 0x1120, D16, Write, Register::SoftwareReset),
+    Row(0x1122, 0x1122, D16, Write, Register::SoftwareClear),
+    Row(0x1124, 0x1124, D16, Write, Register::SoftwareTrigger),
+    Row(0x1128, 0x1128, D32, Read, Register::TriggerCounter),
+    Row(0x1134, 0x1134, D16, Read, Register::MebEventNumber),
 ];
-
-// The names of its rows, each the row's place.
-const MEB_WINDOW: usize = 0;
-
-const COUNTERS: usize = 1;
-
-const CHANNEL_ENABLE: usize = 2;
-
-const CONTROL: usize = 3;
-
-const CONTROL_BIT_SET: usize = 4;
-
-const CONTROL_BIT_CLEAR: usize = 5;
-
-const SOFTWARE_RESET: usize = 6;
-
-const SOFTWARE_CLEAR: usize = 7;
-
-const SOFTWARE_TRIGGER: usize = 8;
-
-const TRIGGER_COUNTER: usize = 9;
-
-const MEB_EVENT_NUMBER: usize = 10;
 
 // What is only counted up: the accepted triggers, in the Trigger Counter.
 #[derive(Clone, Copy, PartialEq, Eq, Debug)]
