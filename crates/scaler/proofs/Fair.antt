@@ -21,13 +21,14 @@ use Rattle.std.specs.Prelude.{Result, Ok, Err}
 use Rattle.bus.specs.Answers.{is_done, admitted}
 use Rattle.bus.specs.Table.{look_up, by_table}
 use Rattle.bus.proofs.Places.{left_of, right_of}
+use Rattle.scaler.specs.declared.Register.{Register}
 use Rattle.scaler.specs.declared.Call.{Call}
 use Rattle.scaler.specs.declared.Call.TheVariants as call
 use Rattle.scaler.specs.declared.Order.TheVariants as order
 use Rattle.scaler.specs.declared.Scales.{Scales}
 use Rattle.scaler.specs.Orders.{inhibited, counting}
 use Rattle.scaler.specs.Admitted.{reaches, pulses_to, clears, no_clear, admitted_to}
-use Rattle.scaler.specs.Rows.{scale_increase, clear_access}
+use Rattle.scaler.specs.Registers.{is_increase, is_clear}
 use Rattle.scaler.specs.declared.module.Outcome.{Outcome}
 use Rattle.scaler.specs.Outcomes.{refused, done}
 use Rattle.scaler.specs.Module.{Module}
@@ -52,16 +53,16 @@ module _ {S J : Type 0} {m : Module S} (inside : Inside m J) where
   abbrev pub Quiet : S → Outcome S → Type 0
   Quiet s o = (inside.joins o.state ≡ inside.joins s) × (scale_counts m o.state ≡ scale_counts m s)
 
-  -- what a row does: Scale Increase, a clear access, or what leaves switches and counts
+  -- what a register does: Scale Increase, a clear access, or what leaves switches and counts
   pub data Does (s : S) (i : Interrupter) : Bool → Bool → Outcome S → Type 0 where
     increases : Does s i true false (tested m s i)
     clearing : (o : Outcome S) → o.answer ≡ Ok 0 → Does s i false true o
     stays : (v : ℕ) (o : Outcome S) → o.answer ≡ Ok v → Quiet s o → Does s i false false o
 
-  -- that an access does at the row that it reaches
-  abbrev pub Deed : S → Interrupter → Access → Result Reached Refusal → Type 0
+  -- that an access does to the register that it reaches
+  abbrev pub Deed : S → Interrupter → Access → Result (Reached Register) Refusal → Type 0
   Deed s i a (Err why) = Unit {0}
-  Deed s i a (Ok to) = Does s i (eqb to.row scale_increase) (eqb to.row clear_access) (performed m to.row to.place s i a)
+  Deed s i a (Ok to) = Does s i (is_increase to.register) (is_clear to.register) (performed m to.register to.place s i a)
 
   -- pulses that are not admitted, and pulses on an input that does nothing
   pub idle : (x n : ℕ) (o : Outcome S) → inhibited (m.scales o.state) || m.ignores o.state x ≡ true → iterate n (pulse m x) o ≡ o
@@ -150,7 +151,7 @@ module _ {S J : Type 0} {m : Module S} (inside : Inside m J) where
     pub record Own : Type 0 where
       pub fit_stays : (s t : S) → inside.joins t ≡ inside.joins s → scale_counts m t ≡ scale_counts m s → Fit s → Fit t
       pub line_stays : (s : S) (i : Interrupter) (on : Bool) → Quiet s (obey m (order.VetoLine on) s i)
-      pub row_does : (s : S) (i : Interrupter) (a : Access) → Deed s i a (look_up 0 m.registers a)
+      pub row_does : (s : S) (i : Interrupter) (a : Access) → Deed s i a (look_up m.registers a)
       pub fair_tested : (s : S) (i : Interrupter) → Fit s → Fair 1 s (tested m s i)
 
     module _ (own : Own) (c : Scale w run f Fit) (s : S) (i : Interrupter) (g : Fit s) where
@@ -170,8 +171,8 @@ module _ {S J : Type 0} {m : Module S} (inside : Inside m J) where
       does_fair (clearing o d) e = absurd (false≢true (sym e))
       does_fair (stays v o d q) e = stays_fair o q
 
-      by_row : (to : Result Reached Refusal) (a : Access) → Deed s i a to → reaches clear_access to ≡ false
-          → Fair (cond (reaches scale_increase to) 1 0) s (by_table (λ why. refused why s i) (λ at place. performed m at place s i a) to)
+      by_row : (to : Result (Reached Register) Refusal) (a : Access) → Deed s i a to → reaches is_clear to ≡ false
+          → Fair (cond (reaches is_increase to) 1 0) s (by_table (λ why. refused why s i) (λ register place. performed m register place s i a) to)
       by_row (Err why) a d e = stays_fair (refused why s i) (refl, refl)
       by_row (Ok to) a d e = does_fair d e
 
@@ -185,7 +186,7 @@ module _ {S J : Type 0} {m : Module S} (inside : Inside m J) where
       fair_step call.Test e = well_formed_lem 1 _ (own.fair_tested s i g)
       fair_step call.ClearLine e = absurd (false≢true (sym e))
       fair_step call.Trigger e = well_formed_lem 0 _ (declined 0 NoMeaning)
-      fair_step (call.Access a) e = well_formed_lem _ _ (by_row (look_up 0 m.registers a) a (own.row_does s i a) e)
+      fair_step (call.Access a) e = well_formed_lem _ _ (by_row (look_up m.registers a) a (own.row_does s i a) e)
       fair_step call.ManClr e = absurd (false≢true (sym e))
 
     -- the scale is ticked as often as pulses are admitted to it, over every list of calls that do not clear

@@ -16,6 +16,7 @@ use Rattle.std.specs.Prelude.{Result, Ok, Err}
 use Rattle.bus.specs.Answers.{Answer, number_of, is_done}
 use Rattle.bus.specs.Table.{look_up, by_table}
 use Rattle.bus.proofs.Choices.{either_way}
+use Rattle.scaler.specs.declared.Register.{Register}
 use Rattle.scaler.specs.declared.Call.{Call}
 use Rattle.scaler.specs.declared.Call.TheVariants as call
 use Rattle.scaler.specs.declared.Order.{Order}
@@ -40,8 +41,8 @@ module _ {S J : Type 0} {m : Module S} (inside : Inside m J) where
   Well o = m.formed o.state o.interrupter ≡ true
 
   -- what an access gives by what it reaches
-  abbrev pub Reaching : S → Interrupter → Access → Result Reached Refusal → Type 0
-  Reaching s i a to = Well (by_table (λ why. refused why s i) (λ at place. performed m at place s i a) to)
+  abbrev pub Reaching : S → Interrupter → Access → Result (Reached Register) Refusal → Type 0
+  Reaching s i a to = Well (by_table (λ why. refused why s i) (λ register place. performed m register place s i a) to)
 
   -- what a module must show of its own calls: a pulse that is admitted, TEST, lines and the button, and each row of
   -- the table
@@ -49,7 +50,7 @@ module _ {S J : Type 0} {m : Module S} (inside : Inside m J) where
     pub clocks_well : (o : Outcome S) (x : ℕ) → Well o → Well (counted m (m.pulsed o.state x) o.state o.interrupter)
     pub tested_well : (s : S) (i : Interrupter) → m.formed s i ≡ true → Well (tested m s i)
     pub ordered_well : (o : Order) (s : S) (i : Interrupter) → m.formed s i ≡ true → Well (obey m o s i)
-    pub rows_well : (s : S) (i : Interrupter) (a : Access) → m.formed s i ≡ true → Reaching s i a (look_up 0 m.registers a)
+    pub rows_well : (s : S) (i : Interrupter) (a : Access) → m.formed s i ≡ true → Reaching s i a (look_up m.registers a)
 
   module _ (own : Forming) where
     pulse_well : (x : ℕ) (o : Outcome S) → Well o → Well (pulse m x o)

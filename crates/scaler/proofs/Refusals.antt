@@ -4,7 +4,7 @@
 use Prim.Native.Nat.{ℕ}
 use mathlib.Core.Path.{◌≡◌, refl, sym, ap, ◌∙◌}
 use mathlib.Core.Bool.{Bool, cond, ◌||◌, false≢true}
-use lib.Dec.{eqb, ltb}
+use lib.Dec.{ltb}
 use Rattle.count.specs.Counter.{iterate}
 use Rattle.count.proofs.Repeats.{iterate_seen}
 use Rattle.bus.specs.declared.Access.{Access}
@@ -16,6 +16,7 @@ use Rattle.std.specs.Prelude.{Result, Ok, Err}
 use Rattle.bus.specs.Answers.{Answer, number_of, refusal_number, is_done}
 use Rattle.bus.specs.Table.{look_up, by_table}
 use Rattle.bus.proofs.Numbers.{number_at, own_number}
+use Rattle.scaler.specs.declared.Register.{Register}
 use Rattle.scaler.specs.declared.Call.{Call}
 use Rattle.scaler.specs.declared.Call.TheVariants as call
 use Rattle.scaler.specs.declared.Order.{Order}
@@ -25,7 +26,7 @@ use Rattle.scaler.specs.declared.module.Outcome.{Outcome}
 use Rattle.scaler.specs.Outcomes.{refused, done}
 use Rattle.scaler.specs.Module.{Module}
 use Rattle.scaler.specs.Calls.{counted, pulse, tested, obey, performed, step_of}
-use Rattle.scaler.specs.Rows.{scale_increase}
+use Rattle.scaler.specs.Registers.{is_increase}
 use Rattle.scaler.specs.Refusals.{Same, test_number, number_for}
 use Rattle.bus.proofs.Choices.{either_way, both_ways}
 use Rattle.scaler.proofs.Fair.{Inside, Does, increases, clearing, stays, Deed}
@@ -53,7 +54,7 @@ module _ {S J : Type 0} {m : Module S} (inside : Inside m J) where
 
   -- what a module must show of its own calls: what each row does
   pub record Answering : Type 0 where
-    pub row_does : (s : S) (i : Interrupter) (a : Access) → Deed inside s i a (look_up 0 m.registers a)
+    pub row_does : (s : S) (i : Interrupter) (a : Access) → Deed inside s i a (look_up m.registers a)
 
   module _ (own : Answering) (s : S) (i : Interrupter) where
     -- 12 comes first
@@ -74,8 +75,8 @@ module _ {S J : Type 0} {m : Module S} (inside : Inside m J) where
     row_answered (clearing o d) = does 0 s i o d
     row_answered (stays v o d q) = does v s i o d
 
-    by_row : (to : Result Reached Refusal) (a : Access) → Deed inside s i a to
-        → Gets s i (number_at (λ at place. cond (eqb at scale_increase) (test_number m s) 0) to) (by_table (λ why. refused why s i) (λ at place. performed m at place s i a) to)
+    by_row : (to : Result (Reached Register) Refusal) (a : Access) → Deed inside s i a to
+        → Gets s i (number_at (λ register place. cond (is_increase register) (test_number m s) 0) to) (by_table (λ why. refused why s i) (λ register place. performed m register place s i a) to)
     by_row (Err why) a d = declines why s i
     by_row (Ok to) a d = row_answered d
 
@@ -89,8 +90,8 @@ module _ {S J : Type 0} {m : Module S} (inside : Inside m J) where
     answered call.ClearLine = first 0 _ (ordered order.ClearLine)
     answered call.Trigger = first 4 _ (declines NoMeaning s i)
     answered (call.Access a) =
-        rw (← own_number 0 m.registers a (λ at. cond (eqb at scale_increase) (test_number m s) 0))
-        (first _ _ (by_row (look_up 0 m.registers a) a (own.row_does s i a)))
+        rw (← own_number m.registers a (λ register. cond (is_increase register) (test_number m s) 0))
+        (first _ _ (by_row (look_up m.registers a) a (own.row_does s i a)))
     answered call.ManClr = first 0 _ (ordered order.ManClr)
 
     -- T1: a refused call changes nothing and has the value 0

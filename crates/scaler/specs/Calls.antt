@@ -1,6 +1,6 @@
 -- The calls of a module of sixteen scales (document 01, "Counting" and "Registers of the V260 and V560"): the V260's
 -- and the V560's alike. Assumes nothing.
-use Rattle.std.specs.Prelude.{ℕ, ◌%◌, Bool, false, cond, ◌||◌, List, [], ◌∷◌, Option, Some, None, map, eqb, ltb, get_or}
+use Rattle.std.specs.Prelude.{ℕ, ◌%◌, Bool, false, cond, ◌||◌, List, [], ◌∷◌, Option, Some, None, map, ltb, get_or}
 use Rattle.count.specs.Counter.{bits_of, next, rises, iterate}
 use Rattle.bus.specs.declared.Access.{Access}
 use Rattle.bus.specs.declared.Refusal.TheVariants.{NoMeaning, NoChannel, Malformed}
@@ -11,10 +11,11 @@ use Rattle.scaler.specs.declared.Call.{Call}
 use Rattle.scaler.specs.declared.Call.TheVariants as call
 use Rattle.scaler.specs.declared.Order.{Order}
 use Rattle.scaler.specs.declared.Order.TheVariants as order
+use Rattle.scaler.specs.declared.Register.{Register}
+use Rattle.scaler.specs.declared.Register.TheVariants.{ScaleIncrease, VetoReset, VetoSet, ClearAccess, LowerHalves, ClearInterrupt, DisableInterrupt, EnableInterrupt}
 use Rattle.scaler.specs.declared.module.Outcome.{Outcome}
 use Rattle.scaler.specs.Orders.{inhibited, counting, obeyed}
 use Rattle.scaler.specs.Clock.{any_from}
-use Rattle.scaler.specs.Rows.{scale_increase, veto_reset, veto_set, clear_access, lower_halves, clear_interrupt, disable_interrupt, enable_interrupt}
 use Rattle.scaler.specs.Outcomes.{refused, done, unless}
 use Rattle.scaler.specs.Module.{Module}
 
@@ -67,22 +68,21 @@ module _ {S : Type 0} (m : Module S) where
   abbrev pub lower_at : ℕ → S → Interrupter → Outcome S
   lower_at k s i = done (get_or (m.scales s).latches k 0 % 0x10000) s i
 
-  -- what an access does at a row of the table and a place in it
-  abbrev pub performed : ℕ → ℕ → S → Interrupter → Access → Outcome S
-  performed at place s i a =
-      cond (eqb at scale_increase) (tested s i)
-      (cond (eqb at veto_reset) (obey order.VetoReset s i)
-      (cond (eqb at veto_set) (obey order.VetoSet s i)
-      (cond (eqb at clear_access) (obey order.ClearAccess s i)
-      (cond (eqb at lower_halves) (lower_at place s i)
-      (cond (eqb at clear_interrupt) (obey order.RemoveRequest s i)
-      (cond (eqb at disable_interrupt) (obey order.Disable s i)
-      (cond (eqb at enable_interrupt) (obey order.Enable s i)
-      (m.register at place s i a))))))))
+  -- what an access does to a register of the table and a place in it
+  abbrev pub performed : Register → ℕ → S → Interrupter → Access → Outcome S
+  performed ScaleIncrease place s i a = tested s i
+  performed VetoReset place s i a = obey order.VetoReset s i
+  performed VetoSet place s i a = obey order.VetoSet s i
+  performed ClearAccess place s i a = obey order.ClearAccess s i
+  performed LowerHalves place s i a = lower_at place s i
+  performed ClearInterrupt place s i a = obey order.RemoveRequest s i
+  performed DisableInterrupt place s i a = obey order.Disable s i
+  performed EnableInterrupt place s i a = obey order.Enable s i
+  performed register place s i a = m.register register place s i a
 
   -- 12, then 1, 2 and 3 by the table, then 4 (Scale Increase) and the deed
   abbrev pub access_of : S → Interrupter → Access → Outcome S
-  access_of s i a = formed s i (by_table (λ why. refused why s i) (λ at place. performed at place s i a) (look_up 0 m.registers a))
+  access_of s i a = formed s i (by_table (λ why. refused why s i) (λ register place. performed register place s i a) (look_up m.registers a))
 
   -- a line or the button: nothing but 12 is refused
   abbrev pub order_of : Order → S → Interrupter → Outcome S

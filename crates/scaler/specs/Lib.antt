@@ -1,4 +1,4 @@
-pub mod Rows
+pub mod Registers
 pub mod Orders
 pub mod Clock
 pub mod Outcomes

@@ -5,6 +5,7 @@ use Rattle.count.specs.declared.Width.{Width}
 use Rattle.bus.specs.declared.Access.{Access}
 use Rattle.bus.specs.declared.interrupter.Interrupter.{Interrupter}
 use Rattle.bus.specs.declared.table.Row.{Row}
+use Rattle.scaler.specs.declared.Register.{Register}
 use Rattle.scaler.specs.declared.Scales.{Scales}
 use Rattle.scaler.specs.declared.module.Outcome.{Outcome}
 
@@ -13,10 +14,10 @@ pub record Module (S : Type 0) : Type 0 where
   -- the counts, the latches and the two vetoes of a state, and a state with others
   pub scales : S → Scales
   pub scaled : Scales → S → S
-  -- "Offsets, widths and rights stand in one constant table per module", and what an access does at the rows that
-  -- the other module has otherwise: the row and the place in it
-  pub registers : List Row
-  pub register : ℕ → ℕ → S → Interrupter → Access → Outcome S
+  -- "Offsets, widths and rights stand in one constant table per module", and what an access does to the registers
+  -- that the other module has otherwise: the register and the place in it
+  pub registers : List (Row Register)
+  pub register : Register → ℕ → S → Interrupter → Access → Outcome S
   -- not 12: "a count above its width", "level above 7"
   pub formed : S → Interrupter → Bool
   -- not 4: "TEST or Scale Increase with any channel joined"

@@ -1,6 +1,6 @@
 -- Document 01, "Numbers that come back", of the V260 and the V560: which number a call gets, and what a refused call
 -- leaves. Assumes nothing.
-use Rattle.std.specs.Prelude.{ℕ, ◌≡◌, false, cond, eqb, ltb}
+use Rattle.std.specs.Prelude.{ℕ, ◌≡◌, false, cond, ltb}
 use Rattle.bus.specs.declared.interrupter.Interrupter.{Interrupter}
 use Rattle.bus.specs.Answers.{Answer, number_of, value_of, is_done}
 use Rattle.bus.specs.Table.{table_number}
@@ -9,7 +9,7 @@ use Rattle.scaler.specs.declared.Call.TheVariants as call
 use Rattle.scaler.specs.declared.module.Outcome.{Outcome}
 use Rattle.scaler.specs.declared.module.Lent.{Lent}
 use Rattle.scaler.specs.Module.{Module}
-use Rattle.scaler.specs.Rows.{scale_increase}
+use Rattle.scaler.specs.Registers.{is_increase}
 
 -- "Every one returns its number, value 0 .. and the old state, interrupter included": of a call on state s with
 -- interrupter i, which answers with `answer` and leaves the state t and the interrupter j
@@ -34,7 +34,7 @@ module _ {S : Type 0} (m : Module S) where
   number_for s i call.ClearLine = cond (m.formed s i) 0 12
   number_for s i call.Trigger = cond (m.formed s i) 4 12
   number_for s i (call.Access a) =
-      cond (m.formed s i) (table_number 0 m.registers a (λ at. cond (eqb at scale_increase) (test_number s) 0)) 12
+      cond (m.formed s i) (table_number m.registers a (λ register. cond (is_increase register) (test_number s) 0)) 12
   number_for s i call.ManClr = cond (m.formed s i) 0 12
 
   -- of a call on state s that was lent the interrupter i, handed back l and left j: its number is the one above, and

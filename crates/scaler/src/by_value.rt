@@ -25,7 +25,7 @@ pub fn access<M: Scaler>(s: M, i: Interrupter, a: Access) -> Outcome<M>
             let channel = Channel {
                 number: to.place as usize,
             };
-            perform(to.row, channel, s, i, a)
+            perform(to.register, channel, s, i, a)
         }
     }
 }

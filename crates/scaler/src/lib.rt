@@ -14,7 +14,6 @@ mod counting;
 pub mod in_place;
 pub mod module;
 mod registers;
-pub mod rows;
 
 // Sixteen counts, the lower-half latch of each, the front veto line and the VME veto.
 #[derive(Clone, Copy, PartialEq, Eq, Debug)]
@@ -37,6 +36,24 @@ pub enum Order {
     ClearLine,
     VetoLine(bool),
     ManClr,
+}
+
+// The registers of the V260 and the V560, in the order of table 4.1 of source documents 000 and 001.
+#[derive(Clone, Copy, PartialEq, Eq, Debug)]
+pub enum Register {
+    Status,
+    ScaleIncrease,
+    VetoReset,
+    VetoSet,
+    ClearAccess,
+    ScaleCounters,
+    LowerHalves,
+    RequestRegister,
+    ClearInterrupt,
+    DisableInterrupt,
+    EnableInterrupt,
+    LevelRegister,
+    VectorRegister,
 }
 
 // The scales and the interrupter after an order.

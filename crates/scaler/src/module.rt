@@ -4,8 +4,8 @@ ghost use Rattle.bus.proofs.Places.{narrow};
 ghost use Rattle.scaler.specs.Outcomes.{refused, done, lent_of};
 ghost use Rattle.scaler.specs.Module.{Module};
 
-use crate::Scales;
 use crate::channel::Channel;
+use crate::{Register, Scales};
 use bus::interrupter::Interrupter;
 use bus::table::Row;
 use bus::{Access, Answer, Refusal};
@@ -74,13 +74,19 @@ pub trait Scaler: Copy {
         ensures { result ≡ own.scaled scales self };
 
     // Its table of registers.
-    fn table() -> &'static [Row]
+    fn table() -> &'static [Row<Register>]
         ensures { result.now ≡ own.registers };
 
-    // An access at a row that the other module has otherwise.
-    fn register(self, i: Interrupter, row: usize, channel: Channel, a: Access) -> Outcome<Self>
+    // An access of a register that the other module has otherwise.
+    fn register(
+        self,
+        i: Interrupter,
+        register: Register,
+        channel: Channel,
+        a: Access,
+    ) -> Outcome<Self>
         requires formed { own.formed self i ≡ true }
-        ensures { result ≡ own.register row channel.number self i a };
+        ensures { result ≡ own.register register channel.number self i a };
 
     // Whether the module and the interrupter are well formed.
     fn is_formed(self, i: Interrupter) -> bool
@@ -107,5 +113,5 @@ pub trait Scaler: Copy {
         ensures { result ≡ own.watched self channel.number };
 
     // A row of its table has no more than sixteen places.
-    ghost sixteen_places: { narrow (λ n. 16) 0 own.registers ≡ true };
+    ghost sixteen_places: { narrow (λ register. 16) own.registers ≡ true };
 }

@@ -1,15 +1,11 @@
-// What an access does at each row of the table.
+// What an access does to each register of the table.
 ghost use Rattle.std.specs.Prelude.{◌≡◌, true};
 ghost use Rattle.scaler.specs.Calls.{obey, lower_at, performed};
 
-use crate::Order;
 use crate::channel::Channel;
 use crate::counting::test_pulse;
 use crate::module::{Outcome, Scaler};
-use crate::rows::{
-    CLEAR_ACCESS, CLEAR_INTERRUPT, DISABLE_INTERRUPT, ENABLE_INTERRUPT, LOWER_HALVES,
-    SCALE_INCREASE, VETO_RESET, VETO_SET,
-};
+use crate::{Order, Register};
 use bus::Access;
 use bus::interrupter::Interrupter;
 
@@ -22,27 +18,31 @@ pub(crate) fn obeyed<M: Scaler>(order: Order, s: M, i: Interrupter) -> Outcome<M
     Outcome::done(0, state, now.interrupter)
 }
 
-// An access of a row and a place in it, which is a channel's.
+// An access of a register and a place in it, which is a channel's.
 pub(crate) fn perform<M: Scaler>(
-    row: usize,
+    register: Register,
     channel: Channel,
     s: M,
     i: Interrupter,
     a: Access,
 ) -> Outcome<M>
     requires formed { M.own.formed s i ≡ true }
-    ensures { result ≡ performed M.own row channel.number s i a }
+    ensures { result ≡ performed M.own register channel.number s i a }
 {
-    match row {
-        SCALE_INCREASE => test_pulse(s, i),
-        VETO_RESET => obeyed(Order::VetoReset, s, i),
-        VETO_SET => obeyed(Order::VetoSet, s, i),
-        CLEAR_ACCESS => obeyed(Order::ClearAccess, s, i),
-        LOWER_HALVES => lower_half(channel, s, i),
-        CLEAR_INTERRUPT => obeyed(Order::RemoveRequest, s, i),
-        DISABLE_INTERRUPT => obeyed(Order::Disable, s, i),
-        ENABLE_INTERRUPT => obeyed(Order::Enable, s, i),
-        _ => s.register(i, row, channel, a),
+    match register {
+        Register::ScaleIncrease => test_pulse(s, i),
+        Register::VetoReset => obeyed(Order::VetoReset, s, i),
+        Register::VetoSet => obeyed(Order::VetoSet, s, i),
+        Register::ClearAccess => obeyed(Order::ClearAccess, s, i),
+        Register::LowerHalves => lower_half(channel, s, i),
+        Register::ClearInterrupt => obeyed(Order::RemoveRequest, s, i),
+        Register::DisableInterrupt => obeyed(Order::Disable, s, i),
+        Register::EnableInterrupt => obeyed(Order::Enable, s, i),
+        Register::Status
+        | Register::ScaleCounters
+        | Register::RequestRegister
+        | Register::LevelRegister
+        | Register::VectorRegister => s.register(i, register, channel, a),
     }
 }
 

@@ -88,7 +88,7 @@ module _ (s : V260) (i : Interrupter) (f : is_formed s i ≡ true) where
   ordered_well (VetoLine on) = f
   ordered_well ManClr = zeroed_well
 
-  rows_well : (a : Access) → Reaching inside s i a (look_up 0 registers a)
+  rows_well : (a : Access) → Reaching inside s i a (look_up registers a)
   rows_well a =
       each_row (Reaching inside s i a) registers a (λ why. f)
       (λ place. f)

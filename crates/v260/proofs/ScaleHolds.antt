@@ -20,11 +20,12 @@ use Rattle.bus.specs.declared.table.Reached.{Reached}
 use Rattle.std.specs.Prelude.{Result, Ok, Err}
 use Rattle.bus.specs.Table.{look_up, by_table}
 use Rattle.bus.proofs.Places.{left_of, right_of}
+use Rattle.scaler.specs.declared.Register.{Register}
 use Rattle.scaler.specs.declared.Call.{Call}
 use Rattle.scaler.specs.declared.Call.TheVariants as call
 use Rattle.scaler.specs.Orders.{inhibited}
 use Rattle.scaler.specs.Admitted.{reaches, clears, no_clear, admitted_to}
-use Rattle.scaler.specs.Rows.{clear_access}
+use Rattle.scaler.specs.Registers.{is_clear}
 use Rattle.scaler.specs.Held.{counts_of, held}
 use Rattle.scaler.proofs.Fair.{Quiet, Does, increases, clearing, stays, Deed, idle, scale_holds}
 use Rattle.scaler.proofs.Runs.{or_true, length_path}
@@ -76,7 +77,7 @@ module _ (s : V260) (i : Interrupter) (j : AllJoined s) where
   quiet_does (clearing o d) e = absurd (false≢true (sym e))
   quiet_does (stays v o d q) e = q
 
-  quiet_reached : (to : Result Reached Refusal) (a : Access) → Deed inside s i a to → reaches clear_access to ≡ false → Quiet inside s (by_table (λ why. refused why s i) (λ at place. performed v260 at place s i a) to)
+  quiet_reached : (to : Result (Reached Register) Refusal) (a : Access) → Deed inside s i a to → reaches is_clear to ≡ false → Quiet inside s (by_table (λ why. refused why s i) (λ register place. performed v260 register place s i a) to)
   quiet_reached (Err why) a d e = (refl, refl)
   quiet_reached (Ok to) a d e = quiet_does d e
 
@@ -87,7 +88,7 @@ module _ (s : V260) (i : Interrupter) (j : AllJoined s) where
   quiet_step call.Test e = quiet_unless Malformed (is_formed s i) _ (λ _. quiet_tested)
   quiet_step call.ClearLine e = absurd (false≢true (sym e))
   quiet_step call.Trigger e = quiet_unless Malformed (is_formed s i) _ (λ _. (refl, refl))
-  quiet_step (call.Access a) e = quiet_unless Malformed (is_formed s i) _ (λ _. quiet_reached (look_up 0 registers a) a (row_does s i a) e)
+  quiet_step (call.Access a) e = quiet_unless Malformed (is_formed s i) _ (λ _. quiet_reached (look_up registers a) a (row_does s i a) e)
   quiet_step call.ManClr e = absurd (false≢true (sym e))
 
 -- T4: nothing counts, whatever is called that does not clear

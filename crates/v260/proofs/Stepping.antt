@@ -35,7 +35,7 @@ abbrev pub inside : Inside v260 Switches
 inside = record { joins = λ s. s.switches; scales_scaled = λ c s. refl; ignores_scaled = λ c s x. refl }
 
 -- what each row of its table does
-pub row_does : (s : V260) (i : Interrupter) (a : Access) → Deed inside s i a (look_up 0 registers a)
+pub row_does : (s : V260) (i : Interrupter) (a : Access) → Deed inside s i a (look_up registers a)
 row_does s i a =
     each_row (Deed inside s i a) registers a (λ why. tt)
     (λ place. stays _ _ refl (refl, refl))

@@ -9,32 +9,31 @@ use Rattle.bus.specs.declared.table.Directions.TheVariants.{Read, Write, ReadWri
 use Rattle.bus.specs.declared.table.Row.{Row}
 use Rattle.bus.specs.Interrupting.{vectored}
 use Rattle.bus.specs.Table.{row}
+use Rattle.scaler.specs.declared.Register.{Register}
+use Rattle.scaler.specs.declared.Register.TheVariants.{Status, ScaleIncrease, VetoReset, VetoSet, ClearAccess, ScaleCounters, LowerHalves, ClearInterrupt, DisableInterrupt, EnableInterrupt, LevelRegister, VectorRegister}
 use Rattle.scaler.specs.declared.Scales.{Scales}
 use Rattle.scaler.specs.declared.module.Outcome.{Outcome}
 use Rattle.scaler.specs.Orders.{inhibited}
 use Rattle.scaler.specs.Outcomes.{refused, done}
-use Rattle.scaler.specs.Rows.{status, scale_counters, level_register, vector_register}
 use Rattle.v260.specs.declared.V260.{V260}
 use Rattle.v260.specs.Outcomes.{scaled}
 
--- table 4.1, from the top: first and last offset, of which every fourth is meant, widths, directions.
--- "A counter's entry covers its offset (V260 and V560: 16 or 32 bits) and, there, offset + 2 (16 only)". Row 7 has no
--- offset.
-abbrev pub registers : List Row
+-- table 4.1, from the top: first and last offset, of which every fourth is meant, widths, directions, register.
+-- "A counter's entry covers its offset (V260 and V560: 16 or 32 bits) and, there, offset + 2 (16 only)".
+abbrev pub registers : List (Row Register)
 registers =
-    row 0x58 0x58 D16 Read  -- Interrupt jumper status
-    ∷ row 0x56 0x56 D16 ReadWrite  -- Scale increase
-    ∷ row 0x54 0x54 D16 ReadWrite  -- INHIBIT reset
-    ∷ row 0x52 0x52 D16 ReadWrite  -- INHIBIT set
-    ∷ row 0x50 0x50 D16 ReadWrite  -- CLEAR scales
-    ∷ row 0x10 0x4C D16D32 Read  -- Counters 0 to 15
-    ∷ row 0x12 0x4E D16 Read  -- their lower halves
-    ∷ row 1 0 D16 Read  -- Not used: it has no offset
-    ∷ row 0x0C 0x0C D16 ReadWrite  -- CLEAR VME interrupt
-    ∷ row 0x0A 0x0A D16 ReadWrite  -- DISABLE VME interrupt
-    ∷ row 0x08 0x08 D16 ReadWrite  -- ENABLE VME interrupt
-    ∷ row 0x06 0x06 D16 Read  -- Interrupt level
-    ∷ row 0x04 0x04 D16 Write  -- Interrupt vector
+    row 0x58 0x58 D16 Read Status  -- Interrupt jumper status
+    ∷ row 0x56 0x56 D16 ReadWrite ScaleIncrease  -- Scale increase
+    ∷ row 0x54 0x54 D16 ReadWrite VetoReset  -- INHIBIT reset
+    ∷ row 0x52 0x52 D16 ReadWrite VetoSet  -- INHIBIT set
+    ∷ row 0x50 0x50 D16 ReadWrite ClearAccess  -- CLEAR scales
+    ∷ row 0x10 0x4C D16D32 Read ScaleCounters  -- Counters 0 to 15
+    ∷ row 0x12 0x4E D16 Read LowerHalves  -- their lower halves
+    ∷ row 0x0C 0x0C D16 ReadWrite ClearInterrupt  -- CLEAR VME interrupt
+    ∷ row 0x0A 0x0A D16 ReadWrite DisableInterrupt  -- DISABLE VME interrupt
+    ∷ row 0x08 0x08 D16 ReadWrite EnableInterrupt  -- ENABLE VME interrupt
+    ∷ row 0x06 0x06 D16 Read LevelRegister  -- Interrupt level
+    ∷ row 0x04 0x04 D16 Write VectorRegister  -- Interrupt vector
     ∷ []
 
 -- "A V260 counter reads as 24 bits, bits 24 to 30 one, bit 31 one when able to count (this paper decides)."
@@ -55,12 +54,11 @@ counter_at k s i width =
     (done (word_at k s.scales) s i)
     (done (word_at k s.scales / 0x10000) (scaled (latched k s.scales) s) i)
 
--- what an access does at a row that the V560 has otherwise and a place in it: the status has all sixteen switches
--- (4.4), the level its three bits (4.11), the vector eight (4.12); 1: there is no other row
-abbrev pub register : ℕ → ℕ → V260 → Interrupter → Access → Outcome V260
-register at place s i a =
-    cond (eqb at status) (done s.switches.interrupts s i)
-    (cond (eqb at scale_counters) (counter_at place s i a.width)
-    (cond (eqb at level_register) (done i.level s i)
-    (cond (eqb at vector_register) (done 0 s (vectored (a.«data» % 0x100) i))
-    (refused NotInTable s i))))
+-- what an access does to a register that the V560 has otherwise and a place in it: the status has all sixteen
+-- switches (4.4), the level its three bits (4.11), the vector eight (4.12); 1: there is no other row
+abbrev pub register : Register → ℕ → V260 → Interrupter → Access → Outcome V260
+register Status place s i a = done s.switches.interrupts s i
+register ScaleCounters place s i a = counter_at place s i a.width
+register LevelRegister place s i a = done i.level s i
+register VectorRegister place s i a = done 0 s (vectored (a.«data» % 0x100) i)
+register _ place s i a = refused NotInTable s i

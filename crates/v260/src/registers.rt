@@ -1,4 +1,4 @@
-// What an access does at the rows that the V560 has otherwise.
+// What an access does to the registers that the V560 has otherwise.
 ghost use Rattle.std.specs.Prelude.{◌≡◌, ◌<◌, true};
 ghost use Rattle.v260.specs.Outcomes.{fits};
 ghost use Rattle.v260.specs.Registers.{counter_word, counter_at, register};
@@ -6,20 +6,26 @@ ghost use Rattle.v260.specs.Registers.{counter_word, counter_at, register};
 use crate::{Outcome, V260};
 use bus::interrupter::Interrupter;
 use bus::{Access, Refusal};
-use scaler::Scales;
 use scaler::channel::Channel;
-use scaler::rows::{LEVEL_REGISTER, SCALE_COUNTERS, STATUS, VECTOR_REGISTER};
+use scaler::{Register, Scales};
 
-// An access of a row and a place in it, which is a channel's.
-pub(crate) fn perform(row: usize, channel: Channel, s: V260, i: Interrupter, a: Access) -> Outcome
+// An access of a register and a place in it, which is a channel's.
+pub(crate) fn perform(
+    reached: Register,
+    channel: Channel,
+    s: V260,
+    i: Interrupter,
+    a: Access,
+) -> Outcome
     requires { fits s.scales.counts ≡ true }
-    ensures { result ≡ register row channel.number s i a }
+    ensures { result ≡ register reached channel.number s i a }
 {
-    match row {
-        STATUS => Outcome::done(u32::from(s.switches.interrupts), s, i),
-        SCALE_COUNTERS => counter(channel, s, i, a.width),
-        LEVEL_REGISTER => Outcome::done(i.level, s, i),
-        VECTOR_REGISTER => Outcome::done(0, s, i.vectored((a.data % 256) as u8)),
+    match reached {
+        Register::Status => Outcome::done(u32::from(s.switches.interrupts), s, i),
+        Register::ScaleCounters => counter(channel, s, i, a.width),
+        Register::LevelRegister => Outcome::done(i.level, s, i),
+        Register::VectorRegister => Outcome::done(0, s, i.vectored((a.data % 256) as u8)),
+        // no row of the table leads here: the V560's request register, and what scaler's `perform` does by itself
         _ => Outcome::refused(Refusal::NotInTable, s, i),
     }
 }

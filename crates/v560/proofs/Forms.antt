@@ -48,7 +48,7 @@ module _ (s : V560) (i : Interrupter) (f : well_formed i ≡ true) where
   register_well word true = (f, le-leb (word % 8) 7 (omega arith), f)
   register_well word false = (f, f, f)
 
-  rows_well : (a : Access) → Reaching inside s i a (look_up 0 registers a)
+  rows_well : (a : Access) → Reaching inside s i a (look_up registers a)
   rows_well a =
       let r = register_well a.«data» a.write in
       each_row (Reaching inside s i a) registers a (λ why. f)

@@ -38,7 +38,7 @@ register_does s i word true = (stays _ _ refl (refl, refl), stays _ _ refl (refl
 register_does s i word false = (stays _ _ refl (refl, refl), stays _ _ refl (refl, refl), stays _ _ refl (refl, refl))
 
 -- what each row of its table does
-pub row_does : (s : V560) (i : Interrupter) (a : Access) → Deed inside s i a (look_up 0 registers a)
+pub row_does : (s : V560) (i : Interrupter) (a : Access) → Deed inside s i a (look_up registers a)
 row_does s i a =
     let r = register_does s i a.«data» a.write in
     each_row (Deed inside s i a) registers a (λ why. tt)

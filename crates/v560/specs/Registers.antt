@@ -9,31 +9,32 @@ use Rattle.bus.specs.declared.table.Directions.TheVariants.{Read, ReadWrite}
 use Rattle.bus.specs.declared.table.Row.{Row}
 use Rattle.bus.specs.Interrupting.{levelled, vectored}
 use Rattle.bus.specs.Table.{row}
+use Rattle.scaler.specs.declared.Register.{Register}
+use Rattle.scaler.specs.declared.Register.TheVariants.{Status, ScaleIncrease, VetoReset, VetoSet, ClearAccess, ScaleCounters, LowerHalves, RequestRegister, ClearInterrupt, DisableInterrupt, EnableInterrupt, LevelRegister, VectorRegister}
 use Rattle.scaler.specs.declared.Scales.{Scales}
 use Rattle.scaler.specs.declared.module.Outcome.{Outcome}
 use Rattle.scaler.specs.Orders.{inhibited}
 use Rattle.scaler.specs.Outcomes.{refused, done}
-use Rattle.scaler.specs.Rows.{status, scale_counters, request_register, level_register, vector_register}
 use Rattle.v560.specs.declared.V560.{V560}
 use Rattle.v560.specs.Outcomes.{scaled}
 
--- table 4.1, from the top: first and last offset, of which every fourth is meant, widths, directions.
+-- table 4.1, from the top: first and last offset, of which every fourth is meant, widths, directions, register.
 -- "A counter's entry covers its offset (V260 and V560: 16 or 32 bits) and, there, offset + 2 (16 only)".
-abbrev pub registers : List Row
+abbrev pub registers : List (Row Register)
 registers =
-    row 0x58 0x58 D16 Read  -- Scale Status register
-    ∷ row 0x56 0x56 D16 ReadWrite  -- Scale Increase
-    ∷ row 0x54 0x54 D16 ReadWrite  -- VME VETO reset
-    ∷ row 0x52 0x52 D16 ReadWrite  -- VME VETO set
-    ∷ row 0x50 0x50 D16 ReadWrite  -- Scale clear
-    ∷ row 0x10 0x4C D16D32 Read  -- Counters 0 to 15
-    ∷ row 0x12 0x4E D16 Read  -- their lower halves
-    ∷ row 0x0E 0x0E D16 ReadWrite  -- Request register
-    ∷ row 0x0C 0x0C D16 ReadWrite  -- Clear VME Interrupt
-    ∷ row 0x0A 0x0A D16 ReadWrite  -- Disable VME Interrupt
-    ∷ row 0x08 0x08 D16 ReadWrite  -- Enable VME Interrupt
-    ∷ row 0x06 0x06 D16 ReadWrite  -- Interrupt Level & VETO register
-    ∷ row 0x04 0x04 D16 ReadWrite  -- Interrupt Vector register
+    row 0x58 0x58 D16 Read Status  -- Scale Status register
+    ∷ row 0x56 0x56 D16 ReadWrite ScaleIncrease  -- Scale Increase
+    ∷ row 0x54 0x54 D16 ReadWrite VetoReset  -- VME VETO reset
+    ∷ row 0x52 0x52 D16 ReadWrite VetoSet  -- VME VETO set
+    ∷ row 0x50 0x50 D16 ReadWrite ClearAccess  -- Scale clear
+    ∷ row 0x10 0x4C D16D32 Read ScaleCounters  -- Counters 0 to 15
+    ∷ row 0x12 0x4E D16 Read LowerHalves  -- their lower halves
+    ∷ row 0x0E 0x0E D16 ReadWrite RequestRegister  -- Request register
+    ∷ row 0x0C 0x0C D16 ReadWrite ClearInterrupt  -- Clear VME Interrupt
+    ∷ row 0x0A 0x0A D16 ReadWrite DisableInterrupt  -- Disable VME Interrupt
+    ∷ row 0x08 0x08 D16 ReadWrite EnableInterrupt  -- Enable VME Interrupt
+    ∷ row 0x06 0x06 D16 ReadWrite LevelRegister  -- Interrupt Level & VETO register
+    ∷ row 0x04 0x04 D16 ReadWrite VectorRegister  -- Interrupt Vector register
     ∷ []
 
 -- "Bits 8 to 15 are unused and are read as "one"" (4.4, 4.9, 4.12, 4.13)
@@ -73,12 +74,11 @@ abbrev pub vector_for : Bool → V560 → Interrupter → ℕ → Outcome V560
 vector_for false s i word = done (ones + i.vector) s i
 vector_for true s i word = done 0 s (vectored (word % 0x100) i)
 
--- what an access does at a row that the V260 has otherwise and a place in it; 1: there is no other row
-abbrev pub register : ℕ → ℕ → V560 → Interrupter → Access → Outcome V560
-register at place s i a =
-    cond (eqb at status) (done (ones + s.joined) s i)
-    (cond (eqb at scale_counters) (counter_at place s i a.width)
-    (cond (eqb at request_register) (request_for a.write s i a.«data»)
-    (cond (eqb at level_register) (level_for a.write s i a.«data»)
-    (cond (eqb at vector_register) (vector_for a.write s i a.«data»)
-    (refused NotInTable s i)))))
+-- what an access does to a register that the V260 has otherwise and a place in it; 1: there is no other row
+abbrev pub register : Register → ℕ → V560 → Interrupter → Access → Outcome V560
+register Status place s i a = done (ones + s.joined) s i
+register ScaleCounters place s i a = counter_at place s i a.width
+register RequestRegister place s i a = request_for a.write s i a.«data»
+register LevelRegister place s i a = level_for a.write s i a.«data»
+register VectorRegister place s i a = vector_for a.write s i a.«data»
+register _ place s i a = refused NotInTable s i

@@ -7,11 +7,13 @@ ghost use Rattle.v560.specs.Module.{v560};
 
 use bus::Access;
 use bus::interrupter::Interrupter;
-use bus::table::{Directions, Row, Widths};
+use bus::table::Directions::{Read, ReadWrite};
+use bus::table::Row;
+use bus::table::Widths::{D16, D16D32};
 use count::Width;
-use scaler::Scales;
 use scaler::channel::Channel;
 use scaler::module::Scaler;
+use scaler::{Register, Scales};
 pub use scaler::{by_value, in_place};
 
 mod counting;
@@ -24,20 +26,20 @@ pub type Outcome = scaler::module::Outcome<V560>;
 pub type Lent = scaler::module::Lent<V560>;
 
 // Table 4.1 of source document 000, from the top.
-const TABLE: [Row; 13] = [
-    Row(0x58, 0x58, Widths::D16, Directions::Read),
-    Row(0x56, 0x56, Widths::D16, Directions::ReadWrite),
-    Row(0x54, 0x54, Widths::D16, Directions::ReadWrite),
-    Row(0x52, 0x52, Widths::D16, Directions::ReadWrite),
-    Row(0x50, 0x50, Widths::D16, Directions::ReadWrite),
-    Row(0x10, 0x4C, Widths::D16D32, Directions::Read),
-    Row(0x12, 0x4E, Widths::D16, Directions::Read),
-    Row(0x0E, 0x0E, Widths::D16, Directions::ReadWrite),
-    Row(0x0C, 0x0C, Widths::D16, Directions::ReadWrite),
-    Row(0x0A, 0x0A, Widths::D16, Directions::ReadWrite),
-    Row(0x08, 0x08, Widths::D16, Directions::ReadWrite),
-    Row(0x06, 0x06, Widths::D16, Directions::ReadWrite),
-    Row(0x04, 0x04, Widths::D16, Directions::ReadWrite),
+const TABLE: [Row<Register>; 13] = [
+    Row(0x58, 0x58, D16, Read, Register::Status),
+    Row(0x56, 0x56, D16, ReadWrite, Register::ScaleIncrease),
+    Row(0x54, 0x54, D16, ReadWrite, Register::VetoReset),
+    Row(0x52, 0x52, D16, ReadWrite, Register::VetoSet),
+    Row(0x50, 0x50, D16, ReadWrite, Register::ClearAccess),
+    Row(0x10, 0x4C, D16D32, Read, Register::ScaleCounters),
+    Row(0x12, 0x4E, D16, Read, Register::LowerHalves),
+    Row(0x0E, 0x0E, D16, ReadWrite, Register::RequestRegister),
+    Row(0x0C, 0x0C, D16, ReadWrite, Register::ClearInterrupt),
+    Row(0x0A, 0x0A, D16, ReadWrite, Register::DisableInterrupt),
+    Row(0x08, 0x08, D16, ReadWrite, Register::EnableInterrupt),
+    Row(0x06, 0x06, D16, ReadWrite, Register::LevelRegister),
+    Row(0x04, 0x04, D16, ReadWrite, Register::VectorRegister),
 ];
 
 // The scales, the joined sections, the sections that may request, and the veto latch.
@@ -60,12 +62,12 @@ impl Scaler for V560 {
         V560 { scales, ..self }
     }
 
-    fn table() -> &'static [Row] {
+    fn table() -> &'static [Row<Register>] {
         &TABLE
     }
 
-    fn register(self, i: Interrupter, row: usize, channel: Channel, a: Access) -> Outcome {
-        registers::perform(row, channel, self, i, a)
+    fn register(self, i: Interrupter, register: Register, channel: Channel, a: Access) -> Outcome {
+        registers::perform(register, channel, self, i, a)
     }
 
     fn is_formed(self, i: Interrupter) -> bool {

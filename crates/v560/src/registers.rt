@@ -1,25 +1,31 @@
-// What an access does at the rows that the V260 has otherwise.
+// What an access does to the registers that the V260 has otherwise.
 ghost use Rattle.std.specs.Prelude.{◌≡◌, ◌<◌};
 ghost use Rattle.v560.specs.Registers.{level_word, counter_at, request_for, level_for, vector_for, register};
 
 use crate::{Outcome, V560};
 use bus::interrupter::Interrupter;
 use bus::{Access, Refusal};
-use scaler::Scales;
 use scaler::channel::Channel;
-use scaler::rows::{LEVEL_REGISTER, REQUEST_REGISTER, SCALE_COUNTERS, STATUS, VECTOR_REGISTER};
+use scaler::{Register, Scales};
 
-// An access of a row and a place in it, which is a channel's.
-pub(crate) fn perform(row: usize, channel: Channel, s: V560, i: Interrupter, a: Access) -> Outcome
+// An access of a register and a place in it, which is a channel's.
+pub(crate) fn perform(
+    reached: Register,
+    channel: Channel,
+    s: V560,
+    i: Interrupter,
+    a: Access,
+) -> Outcome
     requires { i.level < 8 }
-    ensures { result ≡ register row channel.number s i a }
+    ensures { result ≡ register reached channel.number s i a }
 {
-    match row {
-        STATUS => Outcome::done(65280 + u32::from(s.joined), s, i),
-        SCALE_COUNTERS => counter(channel, s, i, a.width),
-        REQUEST_REGISTER => request(s, i, a),
-        LEVEL_REGISTER => level(s, i, a),
-        VECTOR_REGISTER => vector(s, i, a),
+    match reached {
+        Register::Status => Outcome::done(65280 + u32::from(s.joined), s, i),
+        Register::ScaleCounters => counter(channel, s, i, a.width),
+        Register::RequestRegister => request(s, i, a),
+        Register::LevelRegister => level(s, i, a),
+        Register::VectorRegister => vector(s, i, a),
+        // no row of the table leads here: scaler's `perform` does the others by itself
         _ => Outcome::refused(Refusal::NotInTable, s, i),
     }
 }

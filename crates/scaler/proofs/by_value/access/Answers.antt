@@ -5,5 +5,5 @@ use Rattle.scaler.proofs.by_value.access.Goals as goal
 
 pub invariant_of-channel : goal.invariant_of-channel
 invariant_of-channel g c = record {
-  below = rw (← c.table.ensures, sym c.look_up.ensures ∙ c.in-Ok.is) at (places_narrow (λ _. 16) 0 g.M.Scaler.own.registers c.args.a g.met.M.Scaler.sixteen_places);
+  below = rw (← c.table.ensures, sym c.look_up.ensures ∙ c.in-Ok.is) at (places_narrow (λ _. 16) g.M.Scaler.own.registers c.args.a g.met.M.Scaler.sixteen_places);
 }
