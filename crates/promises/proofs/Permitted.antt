@@ -149,8 +149,10 @@ one_bus_numbered κ given first second e d p q = determined p q
 pub one_bus_number : OneResult bus-number.Post
 one_bus_number κ given first second e d p q = determined p q
 
-pub one_bus_look_up : (T : RattleType) (l : Laws T) (y : IsCopy T) (c : clone.Ghosts T.Denot) (b : Dict) → OneResult (bus-look-up.Post T l y c b)
-one_bus_look_up T l y c b κ given first second e d p q = determined p q
+-- of a table of whatever registers: their type R, and how one is copied
+module _ (R : RattleType) (l : Laws R) (y : IsCopy R) (c : clone.Ghosts R.Denot) (b : Dict) where
+  pub one_bus_look_up : OneResult (bus-look-up.Post R l y c b)
+  one_bus_look_up κ given first second e d p q = determined p q
 
 -- ---- benchlog
 pub one_benchlog_read_argument : OneResult benchlog-read-argument.Post
