@@ -60,7 +60,10 @@ pub fn refill(rt: &HostRuntime, buf: &mut [u8], used: usize, have: usize) -> Win
         };
     }
     let left = have - used;
-    buf.copy_within(used..have, 0);
+    // what stands in front already is not copied onto itself: a program that is fed a byte at a time reads often
+    if used > 0 {
+        buf.copy_within(used..have, 0);
+    }
     match rt.stdin().read(&mut buf[left..]) {
         Ok(n) => Window {
             have: left + n,
