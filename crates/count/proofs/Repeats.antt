@@ -31,8 +31,12 @@ iterate_seen step g see Fit each (suc n) a h =
     let r = iterate_seen step g see Fit each n (step a) e.0 in
     (r.0, r.1 ∙ ap (iterate n g) e.1)
 
+-- a step that leaves the state as it is, however often it is made
+pub iterate_still : {A : Type 0} (f : A → A) (s : A) → f s ≡ s → (n : ℕ) → iterate n f s ≡ s
+unfolding iterate
+iterate_still f s e zero = refl
+iterate_still f s e (suc n) = rw e (iterate_still f s e n)
+
 -- a step that does nothing
 pub iterate_same : {A : Type 0} (n : ℕ) (s : A) → iterate n (λ x. x) s ≡ s
-unfolding iterate
-iterate_same zero s = refl
-iterate_same (suc n) s = iterate_same n s
+iterate_same n s = iterate_still (λ x. x) s refl n

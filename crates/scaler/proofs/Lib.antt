@@ -1,4 +1,5 @@
 pub mod Any
+pub mod Still
 pub mod Clocks
 pub mod Runs
 pub mod Counted

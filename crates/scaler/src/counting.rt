@@ -1,6 +1,7 @@
 // What pulses do: a channel counts, those joined to it count its carries, and a watched bit that rises requests.
-ghost use Rattle.std.specs.Prelude.{◌≡◌};
+ghost use Rattle.std.specs.Prelude.{◌≡◌, ◌||◌};
 ghost use Rattle.count.specs.Counter.{iterate};
+ghost use Rattle.scaler.specs.Orders.{inhibited};
 ghost use Rattle.scaler.specs.Outcomes.{done};
 ghost use Rattle.scaler.specs.Calls.{rise_of, rose, counted, pulse, tested};
 
@@ -20,12 +21,14 @@ fn did_rise(watched: Option<u32>, before: u32, after: u32) -> bool
     }
 }
 
-// Whether a watched bit rose.
+// Whether a watched bit rose; a count that stayed is not asked for its bit, since at each pulse most stay.
 fn any_rose<M: Scaler>(s: M, before: [u32; 16], after: [u32; 16]) -> bool
     ensures { result ≡ rose M.own s before after }
 {
     for k in 0..16 {
-        if did_rise(s.watched(Channel { number: k }), before[k], after[k]) {
+        if before[k] != after[k]
+            && did_rise(s.watched(Channel { number: k }), before[k], after[k])
+        {
             return true;
         }
     }
@@ -45,22 +48,32 @@ fn count_to<M: Scaler>(after: [u32; 16], s: M, i: Interrupter) -> Outcome<M>
     Outcome::done(0, state, i.raised(rose))
 }
 
+// Whether no pulse on a channel's input is admitted, or does anything.
+fn admits_none<M: Scaler>(s: M, channel: Channel) -> bool
+    ensures { result ≡ inhibited (M.own.scales s) || M.own.ignores s channel.number }
+{
+    s.scales().is_inhibited() || s.is_ignored(channel)
+}
+
 // One pulse on a channel's input.
 fn pulse_once<M: Scaler>(o: Outcome<M>, channel: Channel) -> Outcome<M>
     ensures { result ≡ pulse M.own channel.number o }
 {
     let s = o.state;
-    if s.scales().is_inhibited() || s.is_ignored(channel) {
+    if admits_none(s, channel) {
         return o;
     }
     count_to(s.counts_after(channel), s, o.interrupter)
 }
 
-// That many pulses on a channel's input, one after the other.
+// That many pulses on a channel's input, one after the other, unless none is admitted, however many there are.
 pub(crate) fn pulse_often<M: Scaler>(s: M, i: Interrupter, channel: Channel, n: u32) -> Outcome<M>
     ensures { result ≡ iterate n (pulse M.own channel.number) (done 0 s i) }
 {
     let mut o = Outcome::done(0, s, i);
+    if admits_none(s, channel) {
+        return o;
+    }
     for _ in 0..n {
         o = pulse_once(o, channel);
     }

@@ -1,8 +1,14 @@
-use mathlib.Core.Path.{◌≡◌, sym, ap, ◌∙◌}
+use mathlib.Core.Path.{◌≡◌, refl, sym, ap, ◌∙◌}
 use native.Mathlib.Omega.{arith}
-use Rattle.count.proofs.Repeats.{iterate_none, iterate_more}
+use Rattle.count.proofs.Repeats.{iterate_none, iterate_more, iterate_still}
 use Rattle.scaler.specs.Calls.{pulse}
 use Rattle.scaler.proofs.counting.pulse_often.Goals as goal
+
+pub returns-then-admits_none : goal.returns-then-admits_none
+returns-then-admits_none g c =
+    let f = pulse g.M.Scaler.own c.args.channel.number in
+    let deaf = sym c.admits_none.ensures ∙ c.if-admits_none.true in
+    c.done-o.ensures ∙ sym (iterate_still f _ (rw deaf refl) c.args.n)
 
 pub loop-init : goal.loop-init
 loop-init g c = sym (iterate_none (pulse g.M.Scaler.own c.args.channel.number) _)
