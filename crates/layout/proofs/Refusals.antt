@@ -1,6 +1,6 @@
--- A refusal: the writer leaves every lent word as it was, the reader gives an event whose fields are all 0, and
--- either one's number comes with the value 0. That each number is given exactly when its line of document 01's table
--- holds and no earlier one does is proved in ExactNumbers. Assumes nothing.
+-- A refusal: the writer leaves every lent word as it was, the reader gives no event, and what is shown of it has all
+-- fields 0, and either one's number comes with the value 0. That each number is given exactly when its line of document
+-- 01's table holds and no earlier one does is proved in ExactNumbers. Assumes nothing.
 use mathlib.Core.Path.{◌≡◌, refl, sym, ◌∙◌}
 use mathlib.Core.Bool.{true, false, false≢true}
 use mathlib.Core.List.{List}
