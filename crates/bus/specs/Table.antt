@@ -1,13 +1,13 @@
 -- Document 01, "What stands on the bench": a module's table of registers and what an access reaches in it. Assumes
 -- nothing.
-use Rattle.std.specs.Prelude.{ℕ, ◌-◌, ◌/◌, ◌%◌, Bool, true, cond, ◌&&◌, ◌||◌, not, List, [], ◌∷◌, Result, Ok, Err, eqb, leb}
+use Rattle.std.specs.Prelude.{ℕ, ◌-◌, ◌/◌, ◌%◌, Bool, true, false, cond, ◌&&◌, ◌||◌, not, List, [], ◌∷◌, Result, Ok, Err, eqb, leb}
 use Rattle.bus.specs.declared.Access.{Access}
 use Rattle.bus.specs.declared.Refusal.{Refusal}
 use Rattle.bus.specs.declared.Refusal.TheVariants.{NotInTable, WrongWidth, WrongDirection}
 use Rattle.bus.specs.declared.table.Widths.{Widths}
-use Rattle.bus.specs.declared.table.Widths.TheVariants.{D16, D32, D16D32}
+use Rattle.bus.specs.declared.table.Widths.TheVariants.{D16, D32, D16D32, NoWidth}
 use Rattle.bus.specs.declared.table.Directions.{Directions}
-use Rattle.bus.specs.declared.table.Directions.TheVariants.{Read, Write, ReadWrite}
+use Rattle.bus.specs.declared.table.Directions.TheVariants.{Read, Write, ReadWrite, NoDirection}
 use Rattle.bus.specs.declared.table.Row.{Row}
 use Rattle.bus.specs.declared.table.Reached.{Reached}
 
@@ -19,17 +19,19 @@ row first last widths directions register = (first, last, widths, directions, re
 abbrev pub covers : {R : Type 0} → Row R → ℕ → Bool
 covers r o = leb r.0 o && leb o r.1 && eqb ((o - r.0) % 4) 0
 
--- "a width (16 or 32; any other gets 2)"
+-- "a width (16 or 32; any other gets 2)"; a row may take none
 abbrev pub takes_width : Widths → ℕ → Bool
 takes_width D16 w = eqb w 16
 takes_width D32 w = eqb w 32
 takes_width D16D32 w = eqb w 16 || eqb w 32
+takes_width NoWidth w = false
 
--- a direction: of an access that writes, and of one that reads
+-- a direction: of an access that writes, and of one that reads; a row may take neither
 abbrev pub takes_direction : Directions → Bool → Bool
 takes_direction Read write = not write
 takes_direction Write write = write
 takes_direction ReadWrite write = true
+takes_direction NoDirection write = false
 
 -- 2: the register does not take this width; 3: it does not take this direction; else the register and the place in it
 abbrev pub reach : {R : Type 0} → Row R → Access → Result (Reached R) Refusal

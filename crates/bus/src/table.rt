@@ -4,20 +4,22 @@ ghost use Rattle.bus.specs.Table.{covers, takes_width, takes_direction, look_up,
 
 use crate::{Access, Refusal};
 
-// The widths that a row takes.
+// The widths that a row takes; a row of no width answers 2 at each of its offsets.
 #[derive(Clone, Copy, PartialEq, Eq, Debug)]
 pub enum Widths {
     D16,
     D32,
     D16D32,
+    NoWidth,
 }
 
-// The directions that a row takes.
+// The directions that a row takes; a row of no direction answers 3 to each width that it takes.
 #[derive(Clone, Copy, PartialEq, Eq, Debug)]
 pub enum Directions {
     Read,
     Write,
     ReadWrite,
+    NoDirection,
 }
 
 // A row: the first and the last offset, of which every fourth is meant, the widths, the directions, and its register.
@@ -40,6 +42,7 @@ impl Widths {
             Widths::D16 => width == 16,
             Widths::D32 => width == 32,
             Widths::D16D32 => width == 16 || width == 32,
+            Widths::NoWidth => false,
         }
     }
 }
@@ -53,6 +56,7 @@ impl Directions {
             Directions::Read => !write,
             Directions::Write => write,
             Directions::ReadWrite => true,
+            Directions::NoDirection => false,
         }
     }
 }
