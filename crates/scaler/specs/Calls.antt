@@ -68,6 +68,10 @@ module _ {S : Type 0} (m : Module S) where
   abbrev pub lower_at : ℕ → S → Interrupter → Outcome S
   lower_at k s i = done (get_or (m.scales s).latches k 0 % 0x10000) s i
 
+  -- an access of a register that the other module has otherwise and a place in it: 12, then what it does
+  abbrev pub register_of : Register → ℕ → S → Interrupter → Access → Outcome S
+  register_of register place s i a = formed s i (m.register register place s i a)
+
   -- what an access does to a register of the table and a place in it
   abbrev pub performed : Register → ℕ → S → Interrupter → Access → Outcome S
   performed ScaleIncrease place s i a = tested s i

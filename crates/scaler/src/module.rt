@@ -3,6 +3,7 @@ ghost use Rattle.std.specs.Prelude.{◌≡◌, true, not};
 ghost use Rattle.bus.proofs.Places.{narrow};
 ghost use Rattle.scaler.specs.Outcomes.{refused, done, lent_of};
 ghost use Rattle.scaler.specs.Module.{Module};
+ghost use Rattle.scaler.specs.Calls.{register_of};
 
 use crate::channel::Channel;
 use crate::{Register, Scales};
@@ -77,7 +78,7 @@ pub trait Scaler: Copy {
     fn table() -> &'static [Row<Register>]
         ensures { result.now ≡ own.registers };
 
-    // An access of a register that the other module has otherwise.
+    // An access of a register that the other module has otherwise, refused where module or interrupter is malformed.
     fn register(
         self,
         i: Interrupter,
@@ -85,8 +86,7 @@ pub trait Scaler: Copy {
         channel: Channel,
         a: Access,
     ) -> Outcome<Self>
-        requires formed { own.formed self i ≡ true }
-        ensures { result ≡ own.register register channel.number self i a };
+        ensures { result ≡ register_of own register channel.number self i a };
 
     // Whether the module and the interrupter are well formed.
     fn is_formed(self, i: Interrupter) -> bool

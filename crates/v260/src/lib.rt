@@ -74,6 +74,9 @@ impl Scaler for V260 {
     }
 
     fn register(self, i: Interrupter, register: Register, channel: Channel, a: Access) -> Outcome {
+        if !self.is_formed(i) {
+            return Outcome::refused(Refusal::Malformed, self, i);
+        }
         registers::perform(register, channel, self, i, a)
     }
 

@@ -5,11 +5,11 @@ ghost use Rattle.std.specs.Prelude.{◌≡◌, refl};
 ghost use Rattle.v560.specs.Outcomes.{started};
 ghost use Rattle.v560.specs.Module.{v560};
 
-use bus::Access;
 use bus::interrupter::Interrupter;
 use bus::table::Directions::{Read, ReadWrite};
 use bus::table::Row;
 use bus::table::Widths::{D16, D16D32};
+use bus::{Access, Refusal};
 use count::Width;
 use scaler::channel::Channel;
 use scaler::module::Scaler;
@@ -67,6 +67,9 @@ impl Scaler for V560 {
     }
 
     fn register(self, i: Interrupter, register: Register, channel: Channel, a: Access) -> Outcome {
+        if !self.is_formed(i) {
+            return Outcome::refused(Refusal::Malformed, self, i);
+        }
         registers::perform(register, channel, self, i, a)
     }
 
