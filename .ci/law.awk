@@ -1,8 +1,9 @@
 # What is amiss with a law of crates/promises: awk -v law=LAW -v crate=CRATE -v path=FUNCTION -v lent=PLACES -v
 # gives=GIVES -f law.awk FILE. It must say, word for word, that any two permitted results of FUNCTION's own contract are
-# equal, and likewise any two contents of each parameter that is lent to it; and the name that it gives that contract
-# must be the function's. Of a function of every type the law stands in a section, which binds a type and what is known
-# of it, and nothing else, and it speaks of all that the section binds: a hypothesis would make a law empty.
+# equal (of a slice that it gives, what is in it), and likewise any two contents of each parameter that is lent to it;
+# and the name that it gives that contract must be the function's. Of a function of every type the law stands in a
+# section, which binds a type and what is known of it, and nothing else, and it speaks of all that the section binds: a
+# hypothesis would make a law empty.
 
 # Whether a section may bind something of a kind: a type, or of this type its laws, how it is copied, what it has of
 # its own as the traits have it, or its code; each by the name that it has from where it is declared.
@@ -37,6 +38,11 @@ function begins_section(line,    sound, name, kind) {
         if (kind !~ /^(Laws|IsCopy) /) seen = seen " " name
     }
     return sound && line == "" && all != ""
+}
+
+# That any two slices which a contract permits hold the same.
+function slices(permitted) {
+    return "(κ : _) (given : _) (first second : _) (e r : _) → " permitted "first e → " permitted "second r → first.now ≡ second.now"
 }
 
 BEGIN {
@@ -89,7 +95,8 @@ END {
     lends = "(λ κ e. " (many > 1 ? "(" contents ")" : contents) ")"
     its = post ? "(" contract ".Post" post ")" : contract ".Post"
     ended = clauses ? "(" contract ".ended" clauses ")" : contract ".ended"
-    if (!many) want = "OneResult " its
+    if (!many && gives == "slice") want = slices(contract ".Post" post " κ given ")
+    else if (!many) want = "OneResult " its
     else if (gives == "nothing") want = "OneContent " its " " lends
     else want = "OneOutcome " (many > 1 ? "{A = λ κ. " lists "} " : "") its " " lends
     walked = "{M : Type 1} → OneLent {M = M} " ended " (λ 𝓤. " contract ".clauses" clauses " {𝓤 = 𝓤}) " lends

@@ -33,9 +33,11 @@ use Rattle.bus.proofs.table.look_up.Reads as bus-look-up
 use Rattle.benchlog.proofs.read_argument.Reads as benchlog-read-argument
 use Rattle.benchlog.proofs.read_entry.Reads as benchlog-read-entry
 use Rattle.benchlog.proofs.Fault.number.Reads as benchlog-number
+use Rattle.benchlog.proofs.entries.FaultFromRefused.from.Reads as benchlog-from
 use Rattle.benchlog.proofs.numbers_of.Reads as benchlog-numbers-of
 use Rattle.benchlog.proofs.read_number.Reads as benchlog-read-number
 use Rattle.layout.proofs.Refusal.number.Reads as layout-number
+use Rattle.layout.proofs.EventDefault.default.Reads as layout-default
 use Rattle.layout.proofs.numbered.Reads as layout-numbered
 use Rattle.layout.proofs.Settings.event_length.Reads as layout-event-length
 use Rattle.layout.proofs.Settings.events_in.Reads as layout-events-in
@@ -86,6 +88,9 @@ use Rattle.meb.proofs.Store.put.Reads as meb-put
 use Rattle.logged.proofs.access_for.Reads as logged-access-for
 use Rattle.logged.proofs.call_830_of.Reads as logged-call-830-of
 use Rattle.modules.proofs.act.Reads as modules-act
+use Rattle.modules.proofs.HeldFromOutcomeV260.from.Reads as modules-from-260
+use Rattle.modules.proofs.HeldFromOutcomeV560.from.Reads as modules-from-560
+use Rattle.modules.proofs.HeldFromV830Outcome.from.Reads as modules-from-830
 use Rattle.modules.proofs.begin.Reads as modules-begin
 use Rattle.modules.proofs.lent.Reads as modules-lent
 use Rattle.modules.proofs.Which.named.Reads as modules-named
@@ -164,6 +169,9 @@ one_benchlog_read_entry κ given first second e d p q = determined p q
 pub one_benchlog_number : OneResult benchlog-number.Post
 one_benchlog_number κ given first second e d p q = determined p q
 
+pub one_benchlog_from : OneResult benchlog-from.Post
+one_benchlog_from κ given first second e d p q = determined p q
+
 pub one_benchlog_numbers_of : OneResult benchlog-numbers-of.Post
 one_benchlog_numbers_of κ given first second e d p q = determined p q
 
@@ -173,6 +181,9 @@ one_benchlog_read_number κ given first second e d p q = determined p q
 -- ---- layout
 pub one_layout_number : OneResult layout-number.Post
 one_layout_number κ given first second e d p q = determined p q
+
+pub one_layout_default : OneResult layout-default.Post
+one_layout_default κ given first second e d p q = determined p q
 
 pub one_layout_numbered : OneResult layout-numbered.Post
 one_layout_numbered κ given first second e d p q = determined p q
@@ -336,6 +347,16 @@ one_logged_call_830_of κ given first second e d p q = determined p q
 -- ---- modules
 pub one_modules_act : OneOutcome modules-act.Post (λ κ e. e.1.0.now)
 one_modules_act κ given first second e d p q = (determined p.0 q.0, determined p.1 q.1)
+
+-- of what a call of each of the three leaves
+pub one_modules_from_260 : OneResult modules-from-260.Post
+one_modules_from_260 κ given first second e d p q = determined p q
+
+pub one_modules_from_560 : OneResult modules-from-560.Post
+one_modules_from_560 κ given first second e d p q = determined p q
+
+pub one_modules_from_830 : OneResult modules-from-830.Post
+one_modules_from_830 κ given first second e d p q = determined p q
 
 pub one_modules_begin : OneResult modules-begin.Post
 one_modules_begin κ given first second e d p q = determined p q
